@@ -1,0 +1,10 @@
+pub mod Basics
+pub mod Fractions
+pub mod Stamps
+pub mod Paths
+pub mod Plans
+pub mod Books
+pub mod Boxes
+pub mod Slots
+pub mod Pages
+pub mod Laws
