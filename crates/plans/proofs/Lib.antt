@@ -1,0 +1,4 @@
+pub mod Straight
+pub mod Breaks
+pub mod Sizes
+pub mod Flown

@@ -1,0 +1,4 @@
+pub mod Of
+pub mod Lines
+pub mod Laws
+pub mod Routes
