@@ -39,8 +39,8 @@ module _ (t : Fraction) (k : ℕ) (ks : List ℕ) where
 
 pub first-after-least : First-after-least
 first-after-least t [] = λ k m. absurd (List·Memᴰ·not-nil m)
-first-after-least t (k ∷ ks) = by (cases-bool (is-before t (tick k)))
+first-after-least t (k ∷ ks) = by (first-after t ks) (first-after-least t ks) (cases-bool (is-before t (tick k)))
   where
-    by : (is-before t (tick k) ≡ true) ⊎ (is-before t (tick k) ≡ false) → LeastAfter t (k ∷ ks) (cond (is-before t (tick k)) (Some (min-with k (first-after t ks))) (first-after t ks))
-    by (inl e) = rw e (here t k ks (ltb-true _ _ e) (first-after t ks) (first-after-least t ks))
-    by (inr e) = rw e (not-here t k ks (λ b. let z = ltb-false (t .num * 1) (k * t .den) e in omega arith) (first-after t ks) (first-after-least t ks))
+    by : (o : Option ℕ) → LeastAfter t ks o → (is-before t (tick k) ≡ true) ⊎ (is-before t (tick k) ≡ false) → LeastAfter t (k ∷ ks) (cond (is-before t (tick k)) (Some (min-with k o)) o)
+    by o l (inl e) = rw e (here t k ks (ltb-true _ _ e) o l)
+    by o l (inr e) = rw e (not-here t k ks (λ b. let z = ltb-false (t .num * 1) (k * t .den) e in omega arith) o l)

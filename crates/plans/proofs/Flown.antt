@@ -175,20 +175,19 @@ slope-zero u end i = record { early = λ _. refl; late = λ _. refl; size = omeg
 
 legs-slope : (ls : List Leg) (end : ℕ) (a : Axis) (i : ℕ) → legs-right ls end ≡ true → Slope (until ls end) end i (legs-line ls end a i .1)
 legs-slope [] end a i r = slope-zero end end i
-legs-slope (l ∷ ls) end a i r = go (decLt i (l .from)) (decLt i (until ls end))
+legs-slope (l ∷ ls) end a i r = go (legs-slope ls end a i (rest-right l ls end r)) (decLt i (l .from)) (decLt i (until ls end))
   where
-    h : Slope (until ls end) end i (legs-line ls end a i .1)
-    h = legs-slope ls end a i (rest-right l ls end r)
     o : l .from < until ls end
     o = first-right l ls end r .order
     u : until ls end ≤ end
     u = until-end ls end (rest-right l ls end r)
+    v : ℤ
     v = l .speed a
-    go : Dec (i < l .from) → Dec (i < until ls end) → Slope (l .from) end i (leg-line v (l .from) (until ls end) i .1 +ℤ legs-line ls end a i .1)
-    go (yes x) y = rw (lt-ltb i (l .from) x, h .early (omega arith)) (slope-zero (l .from) end i)
-    go (no x) (yes y) = rw (le-ltb i (l .from) (omega arith), lt-ltb i (until ls end) y, h .early y)
-        (record { early = λ z. absurd (omega arith); late = λ z. absurd (omega arith); size = sum-within v (pos 0) 1000 0 (first-right l ls end r .speeds a) (omega arith) })
-    go (no x) (no y) = rw (le-ltb i (l .from) (omega arith), le-ltb i (until ls end) (omega arith))
+    go : Slope (until ls end) end i (legs-line ls end a i .1) → Dec (i < l .from) → Dec (i < until ls end) → Slope (l .from) end i (leg-line v (l .from) (until ls end) i .1 +ℤ legs-line ls end a i .1)
+    go h (yes x) y = rw (lt-ltb i (l .from) x, h .early (omega (arith, o))) (slope-zero (l .from) end i)
+    go h (no x) (yes y) = rw (le-ltb i (l .from) (omega arith), lt-ltb i (until ls end) y, h .early y)
+        (record { early = λ z. absurd (omega arith); late = λ z. absurd (omega (arith, u)); size = sum-within v (pos 0) 1000 0 (first-right l ls end r .speeds a) (omega arith) })
+    go h (no x) (no y) = rw (le-ltb i (l .from) (omega arith), le-ltb i (until ls end) (omega arith))
         (record { early = λ z. absurd (omega arith); late = λ z. zero-plus _ (h .late z); size = sum-within (pos 0) (legs-line ls end a i .1) 0 1000 (omega arith) (h .size) })
       where
         zero-plus : (w : ℤ) → w ≡ pos 0 → pos 0 +ℤ w ≡ pos 0
@@ -205,16 +204,16 @@ pub record PlanRight (p : Plan) : Type 0 where
 
 pub right-plan : (p : Plan) → plan-right p ≡ true → PlanRight p
 right-plan p e =
-    let a = and-parts (on-every-axis (λ a. within 1000000 (p .start a))) _ e in
-    let b = and-parts (leb 1 (p .count) && leb (p .count) 8) _ (a .1) in
-    let c = and-parts (leb 1 (p .count)) (leb (p .count) 8) (b .0) in
-    let d = and-parts (legs-right (p .legs) (p .end)) (leb (p .end) 50000) (b .1) in
+    let a = and-parts _ (leb (p .end) 50000) e in
+    let b = and-parts _ (legs-right (p .legs) (p .end)) (a .0) in
+    let d = and-parts (on-every-axis (λ a. within 1000000 (p .start a))) _ (b .0) in
+    let f = and-parts (leb 1 (p .count)) (leb (p .count) 8) (d .1) in
     record {
-      starts = λ x. leb-true (natAbs (p .start x)) 1000000 (every (λ x. within 1000000 (p .start x)) (a .0) x);
-      low = leb-true _ _ (c .0);
-      high = leb-true _ _ (c .1);
-      legs = d .0;
-      last = leb-true _ _ (d .1) }
+      starts = λ x. leb-true (natAbs (p .start x)) 1000000 (every (λ x. within 1000000 (p .start x)) (d .0) x);
+      low = leb-true _ _ (f .0);
+      high = leb-true _ _ (f .1);
+      legs = b .1;
+      last = leb-true _ _ (a .1) }
 
 break-ends : (ls : List Leg) (end k : ℕ) → legs-right ls end ≡ true → k ∈ starts ls end → k ≤ end
 break-ends [] end k r m = ⊎-elim (λ (e : k ≡ end). omega arith) (λ (m′ : k ∈ []). absurd (List·Memᴰ·not-nil m′)) (List·Memᴰ·cases-cons m)
@@ -247,7 +246,7 @@ module _ (p : Plan) (right : plan-right p ≡ true) where
     where
       go : Dec (i < p .end) → natAbs (speed-at (path-of p) a i *ℤ pos i) ≤ 50000000
       go (yes h) = let e = q .last in times-within (speed-at (path-of p) a i) i 1000 50000 (slope-right a i .size) (omega arith)
-      go (no h) = subst (λ (v : ℤ). natAbs (v *ℤ pos i) ≤ 50000000) (sym (slope-right a i .late (omega arith))) (times-within (pos 0) i 0 i (omega arith) (omega arith))
+      go (no h) = subst (λ (v : ℤ). natAbs (v *ℤ pos i) ≤ 50000000) (sym (slope-right a i .late (omega arith))) (omega (arith, times-within (pos 0) i 0 i (omega arith) (omega arith)))
 
   pub plan-kept : Kept 1 (path-of p)
   plan-kept = record {
@@ -293,19 +292,16 @@ unfolding AtLeast
 starts-least [] end w r = go (decLt w end)
   where
     go : Dec (w < end) → AtLeast end (cond (ltb w end) (Some end) None)
-    unfolding AtLeast
     go (yes h) = rw (lt-ltb w end h) (omega arith)
     go (no h) = rw (le-ltb w end (omega arith)) tt
-starts-least (l ∷ ls) end w r = go (decLt w (l .from))
+starts-least (l ∷ ls) end w r = go (starts-least ls end w (rest-right l ls end r)) (decLt w (l .from))
   where
     weaker : (o : Option ℕ) → AtLeast (until ls end) o → AtLeast (l .from) o
-    unfolding AtLeast
     weaker None h = tt
     weaker (Some j) h = let o = first-right l ls end r .order in omega arith
-    go : Dec (w < l .from) → AtLeast (l .from) (cond (ltb w (l .from)) (Some (l .from)) (first-past w (starts ls end)))
-    unfolding AtLeast
-    go (yes h) = rw (lt-ltb w (l .from) h) (omega arith)
-    go (no h) = rw (le-ltb w (l .from) (omega arith)) (weaker (first-past w (starts ls end)) (starts-least ls end w (rest-right l ls end r)))
+    go : AtLeast (until ls end) (first-past w (starts ls end)) → Dec (w < l .from) → AtLeast (l .from) (cond (ltb w (l .from)) (Some (l .from)) (first-past w (starts ls end)))
+    go g (yes h) = rw (lt-ltb w (l .from) h) (omega arith)
+    go g (no h) = rw (le-ltb w (l .from) (omega arith)) (weaker (first-past w (starts ls end)) g)
 
 min-with-least : (k j : ℕ) (o : Option ℕ) → k < j → AtLeast j o → min-with k o ≡ k
 unfolding AtLeast

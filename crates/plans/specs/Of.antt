@@ -1,12 +1,12 @@
 -- The code's plans as values.
-use mathlib.Core.Bool.{cond}
+use mathlib.Core.Bool.{Bool, cond, _&&_}
 use mathlib.Core.List.{List, [], _∷_, _++_, map}
 use Prim.Native.Nat.{ℕ, suc, min}
 use lib.Dec.{ltb}
-use lib.IntN.{ℤ}
+use lib.IntN.{ℤ, pos}
 use lib.ListN.{take}
-use Rattle.rules.specs.Paths.{Axis, Line, xyz}
-use Rattle.rules.specs.Plans.{Leg as FlightLeg, Plan as FlightPlan}
+use Rattle.rules.specs.Paths.{Axis, xyz, on-every-axis}
+use Rattle.rules.specs.Plans.{Leg as FlightLeg, Plan as FlightPlan, within}
 use Rattle.plans.specs.declared.plan.Position.{Position}
 use Rattle.plans.specs.declared.plan.Speed.{Speed}
 use Rattle.plans.specs.declared.plan.Leg.{Leg}
@@ -23,6 +23,14 @@ leg-of l = record { from = l .start; speed = speed-of (l .speed) }
 
 abbrev pub legs-of : List Leg → List FlightLeg
 legs-of ls = map leg-of ls
+
+-- an unused place of a plan's table
+abbrev pub blank : Leg
+blank = record { start = 0; speed = record { x = pos 0; y = pos 0; z = pos 0 } }
+
+-- whether a leg starts before the tick at which it ends, with speeds in range
+abbrev pub leg-right : FlightLeg → ℕ → Bool
+leg-right l end = ltb (l .from) end && on-every-axis (λ a. within 1000 (l .speed a))
 
 -- the legs that a plan keeps: the first of its table, as many as it counts
 abbrev pub plan-of : Plan → FlightPlan

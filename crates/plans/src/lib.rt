@@ -1,5 +1,6 @@
 //! Flight plans, the paths that they give, and the leg question on a plan.
 pub mod answer;
+mod axis;
 pub mod laws;
 pub mod plan;
 pub mod route;

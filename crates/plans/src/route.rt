@@ -1,9 +1,12 @@
 //! Routes: plans that keep their rules.
 ghost use mathlib.Core.Path.{_≡_};
 ghost use mathlib.Core.Bool.{true};
-ghost use lib.ListN.{length};
 ghost use Rattle.rules.specs.Plans.{plan-right};
 ghost use Rattle.plans.specs.Of.{plan-of};
+
+mod lines;
+mod make;
+mod next;
 
 use crate::plan::Plan;
 
