@@ -1,0 +1,6 @@
+//! One level of riding over any flight book.
+pub mod riding;
+mod seats;
+mod sums;
+
+pub use riding::Riding;
