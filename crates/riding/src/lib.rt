@@ -1,4 +1,5 @@
 //! One level of riding over any flight book.
+pub mod laws;
 pub mod riding;
 mod seats;
 mod sums;
