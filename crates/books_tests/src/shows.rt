@@ -1,24 +1,39 @@
 //! Plans, and tables of calls with what they are to answer.
 use books::FlightBook;
+use plans::Leg;
+use plans::LegAnswer;
+use plans::Plan;
+use plans::Position;
+use plans::Speed;
 use plans::answer::LegAnswerDebug;
 use plans::answer::LegAnswerPartialEq;
-use plans::{Leg, LegAnswer, Plan, Position, Speed};
 use std::test::*;
+use times::Refusal;
+use times::Time;
 use times::refusal::RefusalDebug;
 use times::refusal::RefusalPartialEq;
-use times::{Refusal, Time};
 
 /// A plan with one leg along x: from `x`, at `speed` from tick `start` to tick `end`.
 pub fn along_x(x: i32, start: u16, speed: i16, end: u16) -> Plan {
     let mut plan = Plan::new(Position { x, y: 0, z: 0 }, end);
-    plan.push_leg(Leg { start, speed: Speed { x: speed, y: 0, z: 0 } });
+    plan.push_leg(Leg {
+        start,
+        speed: Speed {
+            x: speed,
+            y: 0,
+            z: 0,
+        },
+    });
     plan
 }
 
 /// The same with a second leg that stands, from tick `second` on.
 pub fn two_legs(x: i32, start: u16, speed: i16, second: u16, end: u16) -> Plan {
     let mut plan = along_x(x, start, speed, end);
-    plan.push_leg(Leg { start: second, speed: Speed { x: 0, y: 0, z: 0 } });
+    plan.push_leg(Leg {
+        start: second,
+        speed: Speed { x: 0, y: 0, z: 0 },
+    });
     plan
 }
 
@@ -47,9 +62,17 @@ pub fn rides<B: FlightBook>(book: &mut B, rows: &[(u8, u8, Option<u8>, u8)]) -> 
 }
 
 /// Asks for legs: craft, the time n / d, then the line along x and the first break.
-pub fn legs<B: FlightBook>(book: &B, rows: &[(u8, u32, u16, (i32, i32), Option<u16>)]) -> Result<(), Fail> {
+pub fn legs<B: FlightBook>(
+    book: &B,
+    rows: &[(u8, u32, u16, (i32, i32), Option<u16>)],
+) -> Result<(), Fail> {
     for (craft, n, d, x, next) in rows {
-        let answer = LegAnswer { x: *x, y: (0, 0), z: (0, 0), next: *next };
+        let answer = LegAnswer {
+            x: *x,
+            y: (0, 0),
+            z: (0, 0),
+            next: *next,
+        };
         check_eq(book.leg(*craft, Time::new(*n, *d)?), Ok(answer))?;
     }
     check_eq(book.leg(64, Time::zero()), Err(Refusal::CraftRange))
@@ -66,5 +89,8 @@ pub fn follows<B: FlightBook>(book: &B, rows: &[(u8, u8, bool)]) -> Result<(), F
 
 /// The levels, the scale and the leg limit.
 pub fn numbers<B: FlightBook>(book: &B, levels: u8, scale: u8, limit: u8) -> Result<(), Fail> {
-    check_eq((book.levels(), book.scale(), book.leg_limit()), (levels, scale, limit))
+    check_eq(
+        (book.levels(), book.scale(), book.leg_limit()),
+        (levels, scale, limit),
+    )
 }
