@@ -9,6 +9,7 @@ use Rattle.std.specs.declared.option.Option.{Option}
 use Rattle.std.specs.declared.option.Option.the-variants.{Some, None}
 use Rattle.rules.specs.Stamps.{Stamp}
 use Rattle.heap_queue.specs.declared.tree.Tree.{Tree}
+use Rattle.heap_queue.specs.Orders.{Laws}
 
 -- the parent of place k, but for place 0
 abbrev pub up : ℕ → ℕ
@@ -99,6 +100,19 @@ SamePlaced t u = (k : ℕ) → absent u k ≡ absent t k
 
 abbrev pub SamePlacedBut : Tree → Tree → ℕ → Type 0
 SamePlacedBut t u hand = (k : ℕ) → (k ≡ hand → ⊥) → absent u k ≡ absent t k
+
+-- u is t with a gap, in whatever order
+abbrev pub Opened : Tree → Tree → ℕ → Type 0
+Opened t u gap = (before : ℕ → ℕ → Bool) → Laws before → Ordered before t → OrderedBut before u gap
+
+-- a slot is taken out of t: nothing is left to do, or the gap at place p .0 is to be filled by the slot p .1
+abbrev pub Whole : Tree → Tree → Type 0
+Whole t u = Indexed u × ((before : ℕ → ℕ → Bool) → Ordered before t → Ordered before u)
+
+pub record Vacant (t u : Tree) (slot : ℕ) (p : ℕ × ℕ) : Type 0 where
+  pub index : IndexedBut u (p .0) (p .1)
+  pub order : Opened t u (p .0)
+  pub last : absent u (p .1) ≡ false
 
 -- what the tables hold, where f tells each slot's moment
 abbrev pub held : Tree → (ℕ → Stamp) → ℕ → Option Stamp

@@ -2,6 +2,7 @@
 use queues::SLOTS;
 
 mod gaps;
+mod places;
 
 /// No place: the slot does not stand in the heap.
 pub(crate) const NOWHERE: u16 = 65535;
