@@ -3,3 +3,4 @@ pub mod Tables
 pub mod Gaps
 pub mod Pigeons
 pub mod Places
+pub mod Holdings

@@ -12,7 +12,7 @@ use Rattle.queues.proofs.Firsts.{not-earlier-chain, earlier-apart}
 use Rattle.heap_queue.specs.Orders.{ranks-before, comes-before, Laws}
 
 -- a rank that is not before, taken apart and put together
-rank-out : (x y : Bool) (i j : ℕ) → (x || (not y && ltb i j)) ≡ false → (x ≡ false) × ((y ≡ true) ⊎ (j ≤ i))
+pub rank-out : (x y : Bool) (i j : ℕ) → (x || (not y && ltb i j)) ≡ false → (x ≡ false) × ((y ≡ true) ⊎ (j ≤ i))
 rank-out x y i j h =
     let p = or-parts x (not y && ltb i j) h in
     (p .0, ⊎-elim (λ e. inl (not-false y e)) (λ e. inr (ltb-false i j e)) (and-cases (not y) (ltb i j) (p .1)))

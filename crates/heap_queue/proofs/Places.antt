@@ -139,4 +139,5 @@ module _ (t : Tree) (slot : ℕ) (small : slot < 12352) (ix : Indexed t) where
                 away = λ k l n h e. not-slot k h (sym (same k l h) ∙ ap (slot-of u) e ∙ heap (place-of t slot) ∙ stands);
                 found = λ k l n h. same k l h };
             order = opened t u (place-of t slot) (omega arith) within heap;
-            last = ne-eqb (place-of u (slot-of t (u .len))) 65535 (λ q. omega (arith, last-place, ix .0, end-in)) }
+            last = ne-eqb (place-of u (slot-of t (u .len))) 65535 (λ q. omega (arith, last-place, ix .0, end-in));
+            apart = last-other }
