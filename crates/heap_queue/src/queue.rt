@@ -11,6 +11,8 @@ use times::Moment;
 
 mod calls;
 
+pub use calls::HeapEventQueue;
+
 /// A queue. A slot holds its moment where it stands in the heap, and nothing elsewhere.
 #[derive(Drop)]
 pub struct HeapQueue {
