@@ -4,7 +4,6 @@ ghost use Prim.Native.Nat.{_≤_};
 ghost use lib.ListN.{length};
 ghost use Rattle.heap_queue.specs.Orders.{stamp-at, comes-before};
 ghost use Rattle.heap_queue.specs.Heaps.{Slots, Places, Within, Found, Ordered};
-
 use crate::tree::Tree;
 use queues::SLOTS;
 use times::Moment;

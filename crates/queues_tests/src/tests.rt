@@ -89,7 +89,10 @@ fn walk<Q: EventQueue>(queue: &mut Q, steps: &[Step]) -> Result<(), Fail> {
 /// A slot above the last is refused with 7.
 fn refused<Q: EventQueue>(queue: &mut Q) -> Result<(), Fail> {
     check_eq(keep(queue, 12352, None), Err(Refusal::SlotRange))?;
-    check_eq(keep(queue, 65535, Some(Moment::at(Time::zero()))), Err(Refusal::SlotRange))?;
+    check_eq(
+        keep(queue, 65535, Some(Moment::at(Time::zero()))),
+        Err(Refusal::SlotRange),
+    )?;
     check_eq(queue.moment(12352), Err(Refusal::SlotRange))?;
     check_eq(Refusal::SlotRange.number(), 7)
 }
@@ -153,5 +156,12 @@ fn heap_full() -> Result<(), Fail> {
     fill(&mut queue)?;
     empty(&mut queue)?;
     fill(&mut queue)?;
-    walk(&mut queue, &[(64, 0, 1, true, 0), (0, 50000, 1, true, 9039), (9039, 0, 0, false, 64)])
+    walk(
+        &mut queue,
+        &[
+            (64, 0, 1, true, 0),
+            (0, 50000, 1, true, 9039),
+            (9039, 0, 0, false, 64),
+        ],
+    )
 }
