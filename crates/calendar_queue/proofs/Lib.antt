@@ -1,0 +1,5 @@
+pub mod Order
+pub mod Places
+pub mod Chains
+pub mod Walks
+pub mod Changes
