@@ -3,3 +3,4 @@ pub mod Places
 pub mod Chains
 pub mod Walks
 pub mod Changes
+pub mod Matches

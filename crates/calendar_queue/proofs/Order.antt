@@ -122,3 +122,13 @@ leads-empty i j y = refl
 pub leads-both : (i j : ℕ) (x y : Option Moment) (m k : Moment) → x ≡ Some m → y ≡ Some k → leads i x j y ≡ ahead i m j k
 unfolding leads
 leads-both i j x y m k e f = rw (e, f)
+
+not-chained : (a b c d e f : Bool) (i j k : ℕ) → (c ≡ false → a ≡ false → e ≡ false) → (f ≡ false → a ≡ false → d ≡ false) → (f ≡ false → c ≡ false → b ≡ false) →
+    (a || (not b && ltb i j)) ≡ false → (c || (not d && ltb j k)) ≡ false → (e || (not f && ltb i k)) ≡ false
+not-chained a b c d e f i j k p q r h g = grind (arith, tells)
+
+pub not-ahead-chain : (i j k : ℕ) (x y z : Moment) → ahead i x j y ≡ false → ahead j y k z ≡ false → ahead i x k z ≡ false
+unfolding ahead
+not-ahead-chain i j k x y z h g =
+    not-chained (sooner x y) (sooner y x) (sooner y z) (sooner z y) (sooner x z) (sooner z x) i j k
+    (λ e n. sooner-chain z y x e n) (λ e n. sooner-chain y x z n e) (λ e n. sooner-chain x z y e n) h g

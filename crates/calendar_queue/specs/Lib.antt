@@ -1,3 +1,5 @@
 pub mod Entries
 pub mod Links
 pub mod Heads
+pub mod Crowns
+pub mod Calendars

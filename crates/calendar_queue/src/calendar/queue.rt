@@ -1,0 +1,48 @@
+//! The calendar as an event queue.
+ghost use Rattle.calendar_queue.specs.Calendars.{kept-in};
+use crate::calendar::Calendar;
+use queues::EventQueue;
+use times::Moment;
+use times::Refusal;
+
+pub impl EventQueue for Calendar as CalendarQueue {
+    ghost holds = { λ q. kept-in (q .lists .moments) };
+
+    fn put(&mut self, slot: u16, moment: Moment) -> Result<(), Refusal> {
+        if slot > 12351 {
+            return Err(Refusal::SlotRange);
+        }
+        self.empty(slot);
+        self.fill(slot, moment);
+        Ok(())
+    }
+
+    fn remove(&mut self, slot: u16) -> Result<(), Refusal> {
+        if slot > 12351 {
+            return Err(Refusal::SlotRange);
+        }
+        self.empty(slot);
+        Ok(())
+    }
+
+    fn moment(&self, slot: u16) -> Result<Option<Moment>, Refusal> {
+        if slot > 12351 {
+            return Err(Refusal::SlotRange);
+        }
+        Ok(self.lists.moment(slot))
+    }
+
+    fn first(&self) -> Option<(u16, Moment)> {
+        match self.crown.top() {
+            Some(best) => Some((best.slot, best.moment)),
+            None => None,
+        }
+    }
+
+    fn is_empty(&self) -> bool {
+        match self.crown.top() {
+            Some(_) => false,
+            None => true,
+        }
+    }
+}
