@@ -4,3 +4,4 @@ pub mod Chains
 pub mod Walks
 pub mod Changes
 pub mod Matches
+pub mod Bests
