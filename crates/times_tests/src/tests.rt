@@ -1,5 +1,7 @@
 use std::test::*;
-use times::{Moment, Refusal, Time};
+use times::Moment;
+use times::Refusal;
+use times::Time;
 use times::refusal::RefusalDebug;
 use times::refusal::RefusalPartialEq;
 use times::time::TimeDebug;

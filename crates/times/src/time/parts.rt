@@ -1,7 +1,6 @@
 //! The numbers of a time.
 ghost use mathlib.Core.Path.{_≡_};
 ghost use Rattle.times.specs.Of.{time-of};
-
 use crate::time::Time;
 
 impl Time {
