@@ -12,14 +12,15 @@ use Rattle.std.proofs.shelf.Lists.{set-set, set-getD}
 use Rattle.std.proofs.shelf.Tests.{both-ways, cases-eq, eq-eqb, ne-eqb, le-ltb}
 use Rattle.std.specs.declared.option.Option.{Option}
 use Rattle.std.specs.declared.option.Option.the-variants.{Some, None}
+use Rattle.std.specs.declared.result.Result.the-variants.{Ok}
 use Rattle.rules.specs.Basics.{put}
 use Rattle.rules.specs.Fractions.{Usual, Proper}
 use Rattle.rules.specs.Stamps.{Stamp, is-earlier}
-use Rattle.rules.specs.Slots.{Queue, First, first}
+use Rattle.rules.specs.Slots.{Queue, First}
 use Rattle.times.specs.declared.moment.Moment.{Moment}
 use Rattle.times.specs.Of.{moment-of}
 use Rattle.times.proofs.Times.{times-usual}
-use Rattle.queues.specs.Meanings.{stored, changed}
+use Rattle.queues.specs.Meanings.{stored, changed, answered, soonest}
 use Rattle.queues.specs.Laws.{Held}
 use Rattle.queues.proofs.Firsts.{first-only}
 use Rattle.calendar_queue.specs.declared.entry.Entry.{Entry}
@@ -135,7 +136,7 @@ stored-usual (Some m) n e =
 pub kept-held : (ms : List (Option Moment)) → length ms ≡ 12352 → Held (kept-in ms)
 kept-held ms e = record { within = kept-within ms e; proper = λ k m h. stored-usual (table ms k) m h .proper }
 
-pub first-is : (ms : List (Option Moment)) (ns : List ℕ) (es : List (Option Entry)) → length ms ≡ 12352 → Linked ms ns → Matched es → Agree ms ns es → (x : Option Entry) → x ≡ node es 1 → told x ≡ first (kept-in ms)
+pub first-is : (ms : List (Option Moment)) (ns : List ℕ) (es : List (Option Entry)) → length ms ≡ 12352 → Linked ms ns → Matched es → Agree ms ns es → (x : Option Entry) → x ≡ node es 1 → told x ≡ soonest (kept-in ms)
 first-is ms ns es held linked matched agree x e =
     first-only (kept-in ms) (kept-held ms held) (told x) (is-first ms ns es held linked matched agree x e)
 
@@ -163,3 +164,18 @@ agree-after ms us ns vs es fs i c e agree others fresh b l =
     (λ (ne : b ≡ i → ⊥).
         fresh b l ∙ ap (λ t. cond t (head-of us vs i) (node es (128 + b))) (ne-eqb b i ne) ∙ agree b l ∙ sym (others b l (λ q. ne (q ∙ sym e))))
     (cases-eq b i)
+
+-- emptying an empty slot changes nothing
+pub set-none : (ms : List (Option Moment)) (s : ℕ) → table ms s ≡ None → ms ≡ set ms s None
+set-none ms s e = sym (set-getD ms s None) ∙ ap (set ms s) e
+
+-- a slot up to the last is not refused
+pub allowed : {A : Type 0} (x : A) (s : ℕ) → s < 12352 → Ok x ≡ answered s x
+allowed x s l = let out : ltb 12351 s ≡ false = le-ltb 12351 s (omega arith) in rw out
+
+-- emptied and then filled, or only emptied
+pub kept-put : (ms us vs : List (Option Moment)) (s : ℕ) (m : Moment) → length ms ≡ 12352 → s < 12352 → us ≡ set ms s None → vs ≡ set us s (Some m) → kept-in vs ≡ changed (kept-in ms) s (Some (moment-of m))
+kept-put ms us vs s m e l p q = ap kept-in (q ∙ ap (λ (w : List (Option Moment)). set w s (Some m)) p ∙ set-set ms s None (Some m)) ∙ kept-set ms s (Some m) e l
+
+pub kept-removed : (ms us : List (Option Moment)) (s : ℕ) → length ms ≡ 12352 → s < 12352 → us ≡ set ms s None → kept-in us ≡ changed (kept-in ms) s None
+kept-removed ms us s e l p = ap kept-in p ∙ kept-set ms s None e l

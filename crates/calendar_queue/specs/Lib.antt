@@ -3,3 +3,4 @@ pub mod Links
 pub mod Heads
 pub mod Crowns
 pub mod Calendars
+pub mod Held

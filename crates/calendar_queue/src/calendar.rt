@@ -6,11 +6,11 @@ use crate::lists::Lists;
 mod queue;
 mod slots;
 
-pub use queue::CalendarQueue;
+pub use queue::CalendarEventQueue;
 
 /// A queue of events in 128 buckets, by the remainder of the whole tick of a moment's time.
 #[derive(Drop)]
-pub struct Calendar {
+pub struct CalendarQueue {
     lists: Lists,
     crown: Crown,
     ghost agree: { ∥ Agree (lists .moments) (lists .next) (crown .nodes) ∥₁ },

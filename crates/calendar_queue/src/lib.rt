@@ -4,4 +4,5 @@ mod crown;
 mod entry;
 mod lists;
 
-pub use calendar::Calendar;
+pub use calendar::CalendarEventQueue;
+pub use calendar::CalendarQueue;

@@ -1,12 +1,12 @@
 //! The calendar as an event queue.
-ghost use Rattle.calendar_queue.specs.Calendars.{kept-in};
-use crate::calendar::Calendar;
+ghost use Rattle.calendar_queue.specs.Held.{holds-of};
+use crate::calendar::CalendarQueue;
 use queues::EventQueue;
 use times::Moment;
 use times::Refusal;
 
-pub impl EventQueue for Calendar as CalendarQueue {
-    ghost holds = { λ q. kept-in (q .lists .moments) };
+pub impl EventQueue for CalendarQueue as CalendarEventQueue {
+    ghost holds = { holds-of };
 
     fn put(&mut self, slot: u16, moment: Moment) -> Result<(), Refusal> {
         if slot > 12351 {

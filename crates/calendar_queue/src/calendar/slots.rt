@@ -8,7 +8,8 @@ ghost use Rattle.std.specs.declared.option.Option.the-variants.{Some, None};
 ghost use Rattle.calendar_queue.specs.Links.{table};
 ghost use Rattle.calendar_queue.specs.Heads.{head-of};
 ghost use Rattle.calendar_queue.specs.Crowns.{node};
-use crate::calendar::Calendar;
+ghost use Rattle.calendar_queue.specs.Held.{holds-of};
+use crate::calendar::CalendarQueue;
 use crate::crown::Crown;
 use crate::entry::bucket_of;
 use crate::lists::Lists;
@@ -23,12 +24,12 @@ fn refresh(lists: &Lists, crown: &mut Crown, number: u16)
     crown.set(number, found);
 }
 
-impl Calendar {
+impl CalendarQueue {
     /// An empty calendar.
-    pub fn new() -> Calendar
-        ensures { λ r. ⌜ ((k : ℕ) → table (r .lists .moments) k ≡ None) ⌝ }
+    pub fn new() -> CalendarQueue
+        ensures { λ r. ⌜ ((k : ℕ) → holds-of r k ≡ None) ⌝ }
     {
-        Calendar {
+        CalendarQueue {
             lists: Lists::new(),
             crown: Crown::new(),
         }

@@ -2,7 +2,7 @@ use Rattle.std.specs.declared.option.Option.the-variants.{Some, None}
 use Rattle.calendar_queue.proofs.Walks.{linked-known}
 use Rattle.calendar_queue.proofs.Matches.{matched-known}
 use Rattle.calendar_queue.proofs.Bests.{agree-known, first-is}
-use Rattle.calendar_queue.proofs.calendar.queue.CalendarQueue.first.Needs as need
+use Rattle.calendar_queue.proofs.calendar.queue.CalendarEventQueue.first.Needs as need
 
 pub returns-in-Some : need.returns-in-Some
 returns-in-Some c =

@@ -1,0 +1,22 @@
+use mathlib.Core.Path.{_≡_, sym, ap, _∙_, subst}
+use Prim.Native.Nat.{_<_}
+use native.Mathlib.Omega.{arith}
+use lib.ListN.{set}
+use Rattle.std.specs.declared.option.Option.the-variants.{Some, None}
+use Rattle.calendar_queue.specs.Entries.{bucket}
+use Rattle.calendar_queue.proofs.Walks.{bucket-below}
+use Rattle.calendar_queue.proofs.Bests.{agree-known, agree-after, set-none}
+use Rattle.calendar_queue.proofs.calendar.CalendarQueue.empty.Needs as need
+
+pub refresh-requires : need.refresh-requires
+refresh-requires c κs = let l = bucket-below (c .in-Some .moment) in omega (arith, c .bucket-of .ensures)
+
+pub ghost-self : need.ghost-self
+ghost-self c =
+    let q = c .args .self .now in
+    let l = c .unlink .last .self in
+    ( ∣ agree-after (q .lists .moments) (l .moments) (q .lists .next) (l .next) (q .crown .nodes) (c .refresh .last .crown .nodes) (c .bucket-of .result) (bucket (c .in-Some .moment)) (c .bucket-of .ensures) (agree-known (q .lists .moments) (q .lists .next) (q .crown .nodes) (q .agree)) (c .unlink .ensures .others) (c .refresh .ensures) ∣₁
+    , tt )
+
+pub returns-in-rest : need.returns-in-rest
+returns-in-rest c = set-none (c .args .self .now .lists .moments) (c .args .slot) (sym (c .moment .ensures) ∙ c .in-rest .is)
