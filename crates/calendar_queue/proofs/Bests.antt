@@ -12,7 +12,6 @@ use Rattle.std.proofs.shelf.Lists.{set-set, set-getD}
 use Rattle.std.proofs.shelf.Tests.{both-ways, cases-eq, eq-eqb, ne-eqb, le-ltb}
 use Rattle.std.specs.declared.option.Option.{Option}
 use Rattle.std.specs.declared.option.Option.the-variants.{Some, None}
-use Rattle.std.specs.declared.result.Result.the-variants.{Ok}
 use Rattle.rules.specs.Basics.{put}
 use Rattle.rules.specs.Fractions.{Usual, Proper}
 use Rattle.rules.specs.Stamps.{Stamp, is-earlier}
@@ -20,7 +19,7 @@ use Rattle.rules.specs.Slots.{Queue, First}
 use Rattle.times.specs.declared.moment.Moment.{Moment}
 use Rattle.times.specs.Of.{moment-of}
 use Rattle.times.proofs.Times.{times-usual}
-use Rattle.queues.specs.Meanings.{stored, changed, answered, soonest}
+use Rattle.queues.specs.Meanings.{stored, changed, soonest}
 use Rattle.queues.specs.Laws.{Held}
 use Rattle.queues.proofs.Firsts.{first-only}
 use Rattle.calendar_queue.specs.declared.entry.Entry.{Entry}
@@ -28,7 +27,7 @@ use Rattle.calendar_queue.specs.Entries.{bucket, ahead, leads, lies}
 use Rattle.calendar_queue.specs.Links.{table, links, stands, opens, Follows, Linked}
 use Rattle.calendar_queue.specs.Heads.{entry-at, head-of}
 use Rattle.calendar_queue.specs.Crowns.{node, Matched}
-use Rattle.calendar_queue.specs.Calendars.{kept-in, Agree}
+use Rattle.calendar_queue.specs.Calendars.{kept-in, Agree, told}
 use Rattle.calendar_queue.proofs.Order.{leads-both, lies-bucket, lies-none, not-ahead-chain, ahead-parts}
 use Rattle.calendar_queue.proofs.Places.{begins, opens-start}
 use Rattle.calendar_queue.proofs.Walks.{table-bounded, bucket-below}
@@ -46,11 +45,6 @@ entry-held n None e p = let z : _≡_ {A = ℕ} 0 1 = cc in absurd (omega arith)
 entry-held n (Some m) e p =
     let q : record { slot = n; moment = m } ≡ e = cc in
     (ap (λ (x : Entry). x .slot) (sym q), ap (λ (x : Entry). Some (x .moment)) q)
-
--- an entry as a value
-abbrev pub told : Option Entry → Option (ℕ × Stamp)
-told None = None
-told (Some e) = Some (e .slot, moment-of (e .moment))
 
 pub agree-known : (ms : List (Option Moment)) (ns : List ℕ) (es : List (Option Entry)) → ∥ Agree ms ns es ∥₁ → Agree ms ns es
 agree-known ms ns es h = ∥∥₁-elim h (Π-prop (λ b. →-prop (entries-set _ _))) (λ a. a)
@@ -168,10 +162,6 @@ agree-after ms us ns vs es fs i c e agree others fresh b l =
 -- emptying an empty slot changes nothing
 pub set-none : (ms : List (Option Moment)) (s : ℕ) → table ms s ≡ None → ms ≡ set ms s None
 set-none ms s e = sym (set-getD ms s None) ∙ ap (set ms s) e
-
--- a slot up to the last is not refused
-pub allowed : {A : Type 0} (x : A) (s : ℕ) → s < 12352 → Ok x ≡ answered s x
-allowed x s l = let out : ltb 12351 s ≡ false = le-ltb 12351 s (omega arith) in rw out
 
 -- emptied and then filled, or only emptied
 pub kept-put : (ms us vs : List (Option Moment)) (s : ℕ) (m : Moment) → length ms ≡ 12352 → s < 12352 → us ≡ set ms s None → vs ≡ set us s (Some m) → kept-in vs ≡ changed (kept-in ms) s (Some (moment-of m))

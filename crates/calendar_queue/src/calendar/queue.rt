@@ -12,8 +12,7 @@ pub impl EventQueue for CalendarQueue as CalendarEventQueue {
         if slot > 12351 {
             return Err(Refusal::SlotRange);
         }
-        self.empty(slot);
-        self.fill(slot, moment);
+        self.replace(slot, moment);
         Ok(())
     }
 
@@ -33,14 +32,14 @@ pub impl EventQueue for CalendarQueue as CalendarEventQueue {
     }
 
     fn first(&self) -> Option<(u16, Moment)> {
-        match self.crown.top() {
+        match self.best() {
             Some(best) => Some((best.slot, best.moment)),
             None => None,
         }
     }
 
     fn is_empty(&self) -> bool {
-        match self.crown.top() {
+        match self.best() {
             Some(_) => false,
             None => true,
         }

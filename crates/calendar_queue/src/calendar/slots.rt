@@ -5,12 +5,16 @@ ghost use Prim.Native.Nat.{ℕ, _+_, _<_};
 ghost use lib.Dec.{eqb};
 ghost use lib.ListN.{set};
 ghost use Rattle.std.specs.declared.option.Option.the-variants.{Some, None};
+ghost use Rattle.times.specs.Of.{moment-of};
+ghost use Rattle.queues.specs.Meanings.{changed, soonest};
 ghost use Rattle.calendar_queue.specs.Links.{table};
+ghost use Rattle.calendar_queue.specs.Calendars.{told};
 ghost use Rattle.calendar_queue.specs.Heads.{head-of};
 ghost use Rattle.calendar_queue.specs.Crowns.{node};
 ghost use Rattle.calendar_queue.specs.Held.{holds-of};
 use crate::calendar::CalendarQueue;
 use crate::crown::Crown;
+use crate::entry::Entry;
 use crate::entry::bucket_of;
 use crate::lists::Lists;
 use times::Moment;
@@ -38,7 +42,8 @@ impl CalendarQueue {
     /// Empties a slot.
     pub(super) fn empty(&mut self, slot: u16)
         requires { ⌜ slot < 12352 ⌝ }
-        ensures { λ _. ⌜ now (self .exit) .lists .moments ≡ set (now (self .entry) .lists .moments) slot None ⌝ }
+        ensures moments { λ _. ⌜ now (self .exit) .lists .moments ≡ set (now (self .entry) .lists .moments) slot None ⌝ }
+        ensures meaning { λ _. ⌜ holds-of (now (self .exit)) ≡ changed (holds-of (now (self .entry))) slot None ⌝ }
     {
         if let Some(moment) = self.lists.moment(slot) {
             self.lists.unlink(slot, moment);
@@ -47,12 +52,28 @@ impl CalendarQueue {
     }
 
     /// Fills an empty slot.
-    pub(super) fn fill(&mut self, slot: u16, moment: Moment)
+    fn fill(&mut self, slot: u16, moment: Moment)
         requires inside { ⌜ slot < 12352 ⌝ }
         requires empty { ⌜ table (now self .lists .moments) slot ≡ None ⌝ }
         ensures { λ _. ⌜ now (self .exit) .lists .moments ≡ set (now (self .entry) .lists .moments) slot (Some moment) ⌝ }
     {
         self.lists.link(slot, moment);
         refresh(&self.lists, &mut self.crown, bucket_of(moment));
+    }
+
+    /// Sets a slot's moment, in the place of an old one.
+    pub(super) fn replace(&mut self, slot: u16, moment: Moment)
+        requires { ⌜ slot < 12352 ⌝ }
+        ensures { λ _. ⌜ holds-of (now (self .exit)) ≡ changed (holds-of (now (self .entry))) slot (Some (moment-of moment)) ⌝ }
+    {
+        self.empty(slot);
+        self.fill(slot, moment);
+    }
+
+    /// The entry that comes before all others, or none.
+    pub(super) fn best(&self) -> Option<Entry>
+        ensures { λ r. ⌜ told r ≡ soonest (holds-of (now (self .entry))) ⌝ }
+    {
+        self.crown.top()
     }
 }
