@@ -59,10 +59,13 @@ module _ (ms : List (Option Moment)) (ns : List ℕ) (es : List (Option Entry)) 
       let f : Follows (table ms) (bucket m) (12352 + bucket m) (links ns (12352 + bucket m)) = linked (12352 + bucket m) (bucket m) (bucket-below m) (begins (table ms) (bucket m)) in
       let lk : lies (table ms k) (bucket m) ≡ true = ap (λ o. lies o (bucket m)) h ∙ lies-bucket m in
       let ok : opens (table ms) (12352 + bucket m) k (table ms k) ≡ true = opens-start (table ms) (12352 + bucket m) k (table ms k) (omega arith) in
-      let s = lies-some (table ms (links ns (12352 + bucket m))) (bucket m) (f .inside (f .some k lk ok)) in
-      ( record { slot = links ns (12352 + bucket m); moment = s .0 }
-      , ( agree (bucket m) (bucket-below m) ∙ at-some (links ns (12352 + bucket m)) (table ms (links ns (12352 + bucket m))) (s .0) (s .1)
-        , sym (leads-both k (links ns (12352 + bucket m)) (table ms k) (table ms (links ns (12352 + bucket m))) m (s .0) h (s .1)) ∙ f .least k lk ok ) )
+      let s = lies-some (table ms (links ns (12352 + bucket m))) (bucket m) (f .inside (f .some k lk ok)) in (
+        record { slot = links ns (12352 + bucket m); moment = s .0 },
+        (
+          agree (bucket m) (bucket-below m) ∙ at-some (links ns (12352 + bucket m)) (table ms (links ns (12352 + bucket m))) (s .0) (s .1),
+          sym (leads-both k (links ns (12352 + bucket m)) (table ms k) (table ms (links ns (12352 + bucket m))) m (s .0) h (s .1)) ∙ f .least k lk ok,
+        ),
+      )
     where
       at-some : (n : ℕ) (o : Option Moment) (m : Moment) → o ≡ Some m → entry-at n o ≡ Some (record { slot = n; moment = m })
       at-some n o m e = ap (entry-at n) e ∙ entry-some n m
@@ -71,10 +74,13 @@ module _ (ms : List (Option Moment)) (ns : List ℕ) (es : List (Option Entry)) 
   some-best k m h =
       let l = in-leaf k m h in
       let b = bucket-below m in
-      let u = best es matched (128 + bucket m) (omega arith) (omega arith) (l .0) (l .1 .0) in
-      ( u .0
-      , ( u .1 .0
-        , not-ahead-chain k (l .0 .slot) (u .0 .slot) m (l .0 .moment) (u .0 .moment) (l .1 .1) (u .1 .1) ) )
+      let u = best es matched (128 + bucket m) (omega arith) (omega arith) (l .0) (l .1 .0) in (
+        u .0,
+        (
+          u .1 .0,
+          not-ahead-chain k (l .0 .slot) (u .0 .slot) m (l .0 .moment) (u .0 .moment) (l .1 .1) (u .1 .1),
+        ),
+      )
 
   -- no slot is ahead of the best
   beaten : (k : ℕ) (m : Moment) (e : Entry) → table ms k ≡ Some m → node es 1 ≡ Some e → ahead k m (e .slot) (e .moment) ≡ false
@@ -113,9 +119,10 @@ module _ (ms : List (Option Moment)) (ns : List ℕ) (es : List (Option Entry)) 
           let z : _≡_ {A = ℕ} 0 1 = cc in
           absurd (omega arith)
   is-first (Some a) e = record {
-      here = ap stored (best-held a (sym e));
-      least = λ k n h. let v = value (table ms k) n h in subst (λ (x : Stamp). is-earlier x (moment-of (a .moment)) ≡ false) (v .1 .1) (ahead-parts k (a .slot) (v .0) (a .moment) (beaten k (v .0) a (v .1 .0) (sym e)) .0);
-      lowest = λ k n h g. let v = value (table ms k) n h in ahead-parts k (a .slot) (v .0) (a .moment) (beaten k (v .0) a (v .1 .0) (sym e)) .1 (subst (λ (x : Stamp). is-earlier (moment-of (a .moment)) x ≡ false) (sym (v .1 .1)) g) }
+    here = ap stored (best-held a (sym e));
+    least = λ k n h. let v = value (table ms k) n h in subst (λ (x : Stamp). is-earlier x (moment-of (a .moment)) ≡ false) (v .1 .1) (ahead-parts k (a .slot) (v .0) (a .moment) (beaten k (v .0) a (v .1 .0) (sym e)) .0);
+    lowest = λ k n h g. let v = value (table ms k) n h in ahead-parts k (a .slot) (v .0) (a .moment) (beaten k (v .0) a (v .1 .0) (sym e)) .1 (subst (λ (x : Stamp). is-earlier (moment-of (a .moment)) x ≡ false) (sym (v .1 .1)) g);
+  }
 
 -- what a calendar holds is held in its slots, and at times that are numbers
 pub kept-within : (ms : List (Option Moment)) → length ms ≡ 12352 → (k : ℕ) → 12352 ≤ k → kept-in ms k ≡ None
@@ -154,9 +161,9 @@ pub agree-after : (ms us : List (Option Moment)) (ns vs : List ℕ) (es fs : Lis
 agree-after ms us ns vs es fs i c e agree others fresh b l =
     ⊎-elim
     (λ (q : b ≡ i).
-        fresh b l ∙ ap (λ t. cond t (head-of us vs i) (node es (128 + b))) (eq-eqb b i q) ∙ ap (head-of us vs) (sym q))
+    fresh b l ∙ ap (λ t. cond t (head-of us vs i) (node es (128 + b))) (eq-eqb b i q) ∙ ap (head-of us vs) (sym q))
     (λ (ne : b ≡ i → ⊥).
-        fresh b l ∙ ap (λ t. cond t (head-of us vs i) (node es (128 + b))) (ne-eqb b i ne) ∙ agree b l ∙ sym (others b l (λ q. ne (q ∙ sym e))))
+    fresh b l ∙ ap (λ t. cond t (head-of us vs i) (node es (128 + b))) (ne-eqb b i ne) ∙ agree b l ∙ sym (others b l (λ q. ne (q ∙ sym e))))
     (cases-eq b i)
 
 -- emptying an empty slot changes nothing

@@ -38,15 +38,18 @@ empty-table n k =
 
 pub empty-linked : (n k : ℕ) → k ≡ 12480 → Linked (replicate n None) (replicate k 12480)
 empty-linked n k e p b lb s = record {
-    inside = λ l. absurd (high l);
-    after = λ l. absurd (high l);
-    some = λ j h. absurd (empty j h);
-    least = λ j h. absurd (empty j h) }
+  inside = λ l. absurd (high l);
+  after = λ l. absurd (high l);
+  some = λ j h. absurd (empty j h);
+  least = λ j h. absurd (empty j h);
+}
   where
     below : p < 12480
     below = stands-below (table (replicate n None)) p b lb s
+
     high : links (replicate k 12480) p < 12352 → ⊥
     high l = let b = below in let r : links (replicate k 12480) p ≡ 12480 = getD-replicate k p 12480 0 (omega arith) in omega arith
+
     empty : (j : ℕ) → lies (table (replicate n None) j) b ≡ true → ⊥
     empty j h = both-ways _ (ap (λ o. lies o b) (empty-table n j) ∙ lies-none b) h
 
@@ -90,7 +93,7 @@ module _ (ms : List (Option Moment)) (ns : List ℕ) (x p : ℕ) (m : Moment) (h
     pub link-heads : (b : ℕ) → b < 128 → (b ≡ bucket m → ⊥) → head-of (set ms x (Some m)) (set (set ns x (links ns p)) p x) b ≡ head-of ms ns b
     link-heads b lb ne =
         let h = heads-stay (table ms) (table (set ms x (Some m))) (links ns) (links (set (set ns x (links ns p)) p x)) x p m linked inside (table-but ms x (Some m)) at-k sp
-                (λ a l. absurd (both-ways _ (ap (λ o. lies o a) empty ∙ lies-none a) l)) b lb ne in
+        (λ a l. absurd (both-ways _ (ap (λ o. lies o a) empty ∙ lies-none a) l)) b lb ne in
         head-as _ _ b (h .0) (h .1)
 
   -- the slot x held m
@@ -112,7 +115,7 @@ module _ (ms : List (Option Moment)) (ns : List ℕ) (x p : ℕ) (m : Moment) (h
     pub unlink-heads : (b : ℕ) → b < 128 → (b ≡ bucket m → ⊥) → head-of (set ms x None) (set ns p (links ns x)) b ≡ head-of ms ns b
     unlink-heads b lb ne =
         let h = heads-stay (table ms) (table (set ms x None)) (links ns) (links (set ns p (links ns x))) x p m linked inside (table-but ms x None) at-k′ sp
-                (λ a l. lies-one (table ms x) a (bucket m) l (ap (λ o. lies o (bucket m)) full ∙ lies-bucket m)) b lb ne in
+        (λ a l. lies-one (table ms x) a (bucket m) l (ap (λ o. lies o (bucket m)) full ∙ lies-bucket m)) b lb ne in
         head-as _ _ b (h .0) (h .1)
 
 -- the writes as the code does them, at indices that equal the slot and the place

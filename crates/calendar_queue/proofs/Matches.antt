@@ -60,10 +60,13 @@ under-self x e p = (e, (p, ahead-never (e .slot) (e .moment)))
 pub under-chain : (x y z : Option Entry) → Under x y → Under y z → Under x z
 under-chain x y z f g e p =
     let r = g e p in
-    let s = f (r .0) (r .1 .0) in
-    ( s .0
-    , ( s .1 .0
-      , not-ahead-chain (e .slot) (r .0 .slot) (s .0 .slot) (e .moment) (r .0 .moment) (s .0 .moment) (r .1 .1) (s .1 .1) ) )
+    let s = f (r .0) (r .1 .0) in (
+      s .0,
+      (
+        s .1 .0,
+        not-ahead-chain (e .slot) (r .0 .slot) (s .0 .slot) (e .moment) (r .0 .moment) (s .0 .moment) (r .1 .1) (s .1 .1),
+      ),
+    )
 
 under-none : (x : Option Entry) → Under x None
 under-none x e p = let z : _≡_ {A = ℕ} 0 1 = cc in absurd (omega arith)
@@ -113,8 +116,8 @@ module _ (ns : List (Option Entry)) (matched : Matched ns) where
       ⊎-elim
       (λ (e : 2 * (k / 2) ≡ k). subst (λ (j : ℕ). Under (node ns (k / 2)) (node ns j)) e (parent (k / 2) (omega arith) (omega arith) .0))
       (λ (ne : 2 * (k / 2) ≡ k → ⊥).
-          let e : 2 * (k / 2) + 1 ≡ k = omega arith in
-          subst (λ (j : ℕ). Under (node ns (k / 2)) (node ns j)) e (parent (k / 2) (omega arith) (omega arith) .1))
+      let e : 2 * (k / 2) + 1 ≡ k = omega arith in
+      subst (λ (j : ℕ). Under (node ns (k / 2)) (node ns j)) e (parent (k / 2) (omega arith) (omega arith) .1))
       (cases-eq (2 * (k / 2)) k)
 
   best-by : (n k : ℕ) → k ≤ n → 0 < k → k < 256 → Under (node ns 1) (node ns k)
@@ -123,7 +126,7 @@ module _ (ns : List (Option Entry)) (matched : Matched ns) where
       ⊎-elim
       (λ (e : k ≡ 1). subst (λ (j : ℕ). Under (node ns 1) (node ns j)) (sym e) (under-self (node ns 1)))
       (λ (ne : k ≡ 1 → ⊥).
-          under-chain (node ns 1) (node ns (k / 2)) (node ns k) (best-by n (k / 2) (omega arith) (omega arith) (omega arith)) (up k (omega arith) l))
+      under-chain (node ns 1) (node ns (k / 2)) (node ns k) (best-by n (k / 2) (omega arith) (omega arith) (omega arith)) (up k (omega arith) l))
       (cases-eq k 1)
 
   -- no node is ahead of node 1
@@ -136,6 +139,7 @@ module _ (ns : List (Option Entry)) (matched : Matched ns) where
     where
       leaf : 128 ≤ i → (b : ℕ) × ((b < 128) × (node ns i ≡ node ns (128 + b)))
       leaf g = (i - 128, (omega arith, ap (node ns) (let e : i ≡ 128 + (i - 128) = omega arith in e)))
+
       inner : ((j : ℕ) → 256 ≤ j + n → 0 < j → j < 256 → (b : ℕ) × ((b < 128) × (node ns j ≡ node ns (128 + b)))) → i < 128 → (b : ℕ) × ((b < 128) × (node ns i ≡ node ns (128 + b)))
       inner below g =
           ⊎-elim
@@ -160,12 +164,15 @@ match-step ns j size p l m i ip il ne = ⊎-elim here other (cases-eq i j)
   where
     v : Option Entry
     v = better (node ns (2 * j)) (node ns (2 * j + 1))
+
     won : Won (set ns j (better (node ns (2 * j)) (node ns (2 * j + 1)))) j
     won =
         getD-set-same ns j _ None (omega arith)
         ∙ sym (λ t. better (getD-set-other ns j (2 * j) (better (node ns (2 * j)) (node ns (2 * j + 1))) None (λ e. omega arith) t) (getD-set-other ns j (2 * j + 1) (better (node ns (2 * j)) (node ns (2 * j + 1))) None (λ e. omega arith) t))
+
     here : i ≡ j → Won (set ns j (better (node ns (2 * j)) (node ns (2 * j + 1)))) i
     here e = subst (λ (k : ℕ). Won (set ns j (better (node ns (2 * j)) (node ns (2 * j + 1)))) k) (sym e) won
+
     other : (i ≡ j → ⊥) → Won (set ns j (better (node ns (2 * j)) (node ns (2 * j + 1)))) i
     other no-j = won-stays ns j i _ no-j (λ e. ne (omega arith)) (λ e. ne (omega arith)) (m i ip il no-j)
 

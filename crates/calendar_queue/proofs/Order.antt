@@ -31,7 +31,6 @@ sooner-apart i j h = earlier-apart (moment-of i) (moment-of j) h
 pub sooner-never : (m : Moment) → sooner m m ≡ false
 sooner-never m = not-earlier-test (moment-of m) (moment-of m) (λ e. asym (moment-of m) (moment-of m) e e)
 
-
 chained : (a b c d e f : Bool) (i j k : ℕ) → (d ≡ false → e ≡ false → a ≡ false) → (e ≡ false → b ≡ false → c ≡ false) → (b ≡ false → d ≡ false → f ≡ false) → (c ≡ true → d ≡ false) → (a ≡ true → b ≡ false) →
     (a || (not b && ltb i j)) ≡ true → (c || (not d && ltb j k)) ≡ true → (e || (not f && ltb i k)) ≡ true
 chained a b c d e f i j k p q r s u h g = grind (arith, tells)

@@ -55,9 +55,9 @@ stands-one t p a b h g =
     ⊎-elim
     (λ l. lies-one (t p) a b (sym (stands-slot t p a l) ∙ h) (sym (stands-slot t p b l) ∙ g))
     (λ l.
-        let x = eqb-true p (12352 + a) (sym (stands-start t p a l) ∙ h) in
-        let y = eqb-true p (12352 + b) (sym (stands-start t p b l) ∙ g) in
-        omega arith)
+    let x = eqb-true p (12352 + a) (sym (stands-start t p a l) ∙ h) in
+    let y = eqb-true p (12352 + b) (sym (stands-start t p b l) ∙ g) in
+    omega arith)
     (cases-lt p 12352)
 
 pub stands-below : (t : Table) (p b : ℕ) → b < 128 → stands t p b ≡ true → p < 12480
@@ -100,14 +100,15 @@ places-total t p q b h g ne = ⊎-elim low high (cases-lt p 12352)
 
         one : 12352 ≤ q → Comes t b p q ⊎ Comes t b q p
         one k = inr (lp, opens-start t q p (t p) k)
+
     high : 12352 ≤ p → Comes t b p q ⊎ Comes t b q p
     high l =
         ⊎-elim
         (λ k. inl (sym (stands-slot t q b k) ∙ g, opens-start t p q (t q) l))
         (λ k.
-            let x = eqb-true p (12352 + b) (sym (stands-start t p b l) ∙ h) in
-            let y = eqb-true q (12352 + b) (sym (stands-start t q b k) ∙ g) in
-            absurd (ne (omega arith)))
+        let x = eqb-true p (12352 + b) (sym (stands-start t p b l) ∙ h) in
+        let y = eqb-true q (12352 + b) (sym (stands-start t q b k) ∙ g) in
+        absurd (ne (omega arith)))
         (cases-lt q 12352)
 
 pub follows-at : (t : Table) (a b p q m n : ℕ) → a ≡ b → p ≡ q → m ≡ n → Follows t a p m → Follows t b q n

@@ -61,6 +61,7 @@ count-less p q (suc n) h c l x y = ⊎-elim here (λ ne. earlier (count-less p q
         let g : q n ≡ true = subst (λ (k : ℕ). q k ≡ true) e x in
         let r = count-le p q n h in
         rw (f, g) (omega arith)
+
     earlier : count p n < count q n → count p (suc n) < count q (suc n)
     earlier r =
         ⊎-elim
@@ -90,14 +91,18 @@ step t f b p x m bd right lb sp h =
         (λ k. k)
         (λ k. absurd (both-ways _ (ap (λ o. leads (f p) o x (Some m)) (bd (f p) k) ∙ leads-empty (f p) x (Some m)) h))
         (cases-lt (f p) 12352)
+
     was : Follows t b p (f p)
     was = right p b lb sp
+
     fewer : (j : ℕ) → (lies (t j) b && opens t (f p) j (t j)) ≡ true → (lies (t j) b && opens t p j (t j)) ≡ true
     fewer j e =
         let s = and-parts (lies (t j) b) (opens t (f p) j (t j)) e in
         and-from (lies (t j) b) (opens t p j (t j)) (s .0) (opens-chain t p (f p) j (t (f p)) (t j) (was .after l) (sym (opens-slot t (f p) j (t j) l) ∙ s .1))
+
     mine : (lies (t (f p)) b && opens t p (f p) (t (f p))) ≡ true
     mine = and-from _ _ (was .inside l) (was .after l)
+
     gone : (lies (t (f p)) b && opens t (f p) (f p) (t (f p))) ≡ false
     gone = and-right _ _ (opens-slot t (f p) (f p) (t (f p)) l ∙ leads-never (f p) (t (f p)))
 

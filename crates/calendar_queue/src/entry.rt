@@ -10,11 +10,14 @@ pub struct Entry {
     pub moment: Moment,
 }
 
+/// How many buckets there are.
+const BUCKETS: u16 = 128;
+
 /// The bucket of a moment: the remainder of its whole tick.
 pub fn bucket_of(moment: Moment) -> u16
     ensures { λ r. ⌜ r ≡ bucket moment ⌝ }
 {
-    moment.time.whole() % 128
+    moment.time.whole() % BUCKETS
 }
 
 impl Entry {
@@ -22,6 +25,7 @@ impl Entry {
     pub fn before(self, other: Entry) -> bool
         ensures { λ r. ⌜ r ≡ ahead (self .slot) (self .moment) (other .slot) (other .moment) ⌝ }
     {
-        self.moment.before(other.moment) || !other.moment.before(self.moment) && self.slot < other.slot
+        self.moment.before(other.moment)
+            || !other.moment.before(self.moment) && self.slot < other.slot
     }
 }

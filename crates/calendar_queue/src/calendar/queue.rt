@@ -2,6 +2,7 @@
 ghost use Rattle.calendar_queue.specs.Held.{holds-of};
 use crate::calendar::CalendarQueue;
 use queues::EventQueue;
+use queues::SLOTS;
 use times::Moment;
 use times::Refusal;
 
@@ -9,7 +10,7 @@ pub impl EventQueue for CalendarQueue as CalendarEventQueue {
     ghost holds = { holds-of };
 
     fn put(&mut self, slot: u16, moment: Moment) -> Result<(), Refusal> {
-        if slot > 12351 {
+        if slot as usize >= SLOTS {
             return Err(Refusal::SlotRange);
         }
         self.replace(slot, moment);
@@ -17,7 +18,7 @@ pub impl EventQueue for CalendarQueue as CalendarEventQueue {
     }
 
     fn remove(&mut self, slot: u16) -> Result<(), Refusal> {
-        if slot > 12351 {
+        if slot as usize >= SLOTS {
             return Err(Refusal::SlotRange);
         }
         self.empty(slot);
@@ -25,7 +26,7 @@ pub impl EventQueue for CalendarQueue as CalendarEventQueue {
     }
 
     fn moment(&self, slot: u16) -> Result<Option<Moment>, Refusal> {
-        if slot > 12351 {
+        if slot as usize >= SLOTS {
             return Err(Refusal::SlotRange);
         }
         Ok(self.lists.moment(slot))

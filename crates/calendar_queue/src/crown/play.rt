@@ -17,13 +17,7 @@ fn better(left: Option<Entry>, right: Option<Entry>) -> Option<Entry>
         None => right,
         Some(l) => match right {
             None => left,
-            Some(r) => {
-                if r.before(l) {
-                    right
-                } else {
-                    left
-                }
-            }
+            Some(r) => { if r.before(l) { right } else { left } }
         },
     }
 }

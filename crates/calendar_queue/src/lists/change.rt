@@ -8,6 +8,10 @@ ghost use Rattle.calendar_queue.specs.Links.{table};
 ghost use Rattle.calendar_queue.specs.Heads.{head-of};
 use crate::entry::Entry;
 use crate::lists::Lists;
+use crate::lists::NO_SLOT;
+use crate::lists::PLACES;
+use crate::lists::STARTS;
+use queues::SLOTS;
 use times::Moment;
 
 impl Lists {
@@ -17,8 +21,8 @@ impl Lists {
         ensures heads { λ r. ⌜ ((b : ℕ) → b < 128 → head-of (r .moments) (r .next) b ≡ None) ⌝ }
     {
         Lists {
-            moments: [None; 12352],
-            next: [12480; 12480],
+            moments: [None; SLOTS],
+            next: [NO_SLOT; PLACES],
         }
     }
 
@@ -52,8 +56,8 @@ impl Lists {
         requires { ⌜ number < 128 ⌝ }
         ensures { λ r. ⌜ r ≡ head-of (now (self .entry) .moments) (now (self .entry) .next) number ⌝ }
     {
-        let slot = self.next[usize::from(12352 + number)];
-        if slot >= 12352 {
+        let slot = self.next[usize::from(STARTS + number)];
+        if slot >= STARTS {
             return None;
         }
         match self.moment(slot) {

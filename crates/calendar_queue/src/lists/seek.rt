@@ -8,6 +8,7 @@ ghost use Rattle.calendar_queue.specs.Links.{table, links, stands, opens};
 use crate::entry::Entry;
 use crate::entry::bucket_of;
 use crate::lists::Lists;
+use crate::lists::STARTS;
 use times::Moment;
 
 impl Lists {
@@ -25,7 +26,7 @@ impl Lists {
         ensures { λ r. ⌜ r ≡ leads (links (now (self .entry) .next) place) (table (now (self .entry) .moments) (links (now (self .entry) .next) place)) (wanted .slot) (Some (wanted .moment)) ⌝ }
     {
         let slot = self.next[usize::from(place)];
-        if slot >= 12352 {
+        if slot >= STARTS {
             return false;
         }
         match self.moment(slot) {
@@ -40,7 +41,7 @@ impl Lists {
         ensures opens { λ r. ⌜ opens (table (now (self .entry) .moments)) r (wanted .slot) (Some (wanted .moment)) ≡ true ⌝ }
         ensures last { λ r. ⌜ leads (links (now (self .entry) .next) r) (table (now (self .entry) .moments) (links (now (self .entry) .next) r)) (wanted .slot) (Some (wanted .moment)) ≡ false ⌝ }
     {
-        let mut place = 12352 + bucket_of(wanted.moment);
+        let mut place = STARTS + bucket_of(wanted.moment);
         while self.goes_on(place, wanted) {
             place = self.next[usize::from(place)];
         }

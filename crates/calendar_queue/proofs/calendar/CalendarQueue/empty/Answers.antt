@@ -14,15 +14,17 @@ refresh-requires c κs = let l = bucket-below (c .in-Some .moment) in omega (ari
 pub ghost-self : need.ghost-self
 ghost-self c =
     let q = c .args .self .now in
-    let l = c .unlink .last .self in
-    ( ∣ agree-after (q .lists .moments) (l .moments) (q .lists .next) (l .next) (q .crown .nodes) (c .refresh .last .crown .nodes) (c .bucket-of .result) (bucket (c .in-Some .moment)) (c .bucket-of .ensures) (agree-known (q .lists .moments) (q .lists .next) (q .crown .nodes) (q .agree)) (c .unlink .ensures .others) (c .refresh .ensures) ∣₁
-    , tt )
+    let l = c .unlink .last .self in (
+      ∣ agree-after (q .lists .moments) (l .moments) (q .lists .next) (l .next) (q .crown .nodes) (c .refresh .last .crown .nodes) (c .bucket-of .result) (bucket (c .in-Some .moment)) (c .bucket-of .ensures) (agree-known (q .lists .moments) (q .lists .next) (q .crown .nodes) (q .agree)) (c .unlink .ensures .others) (c .refresh .ensures) ∣₁,
+      tt,
+    )
 
 pub returns-in-Some : need.returns-in-Some
 returns-in-Some c =
-    record
-      { moments = c .unlink .ensures .moments
-      ; meaning = kept-removed (c .args .self .now .lists .moments) (c .unlink .last .self .moments) (c .args .slot) (c .args .self .now .lists .held) (c .pre) (c .unlink .ensures .moments) }
+    record {
+      moments = c .unlink .ensures .moments;
+      meaning = kept-removed (c .args .self .now .lists .moments) (c .unlink .last .self .moments) (c .args .slot) (c .args .self .now .lists .held) (c .pre) (c .unlink .ensures .moments);
+    }
 
 pub returns-in-rest : need.returns-in-rest
 returns-in-rest c =

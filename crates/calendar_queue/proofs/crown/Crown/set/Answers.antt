@@ -11,9 +11,10 @@ use Rattle.calendar_queue.proofs.crown.Crown.set.Needs as need
 
 pub ghost-self : need.ghost-self
 ghost-self c =
-    let s = c .args .self .now in
-    ( c .replay .kept .nodes ∙ length-set (s .nodes) _ _ ∙ s .sized
-    , (∣ c .replay .ensures .matched (leaf-set (s .nodes) (128 + c .from-leaf .result) (c .args .found) (omega arith) (matched-known (s .nodes) (s .matched))) ∣₁, tt) )
+    let s = c .args .self .now in (
+      c .replay .kept .nodes ∙ length-set (s .nodes) _ _ ∙ s .sized,
+      (∣ c .replay .ensures .matched (leaf-set (s .nodes) (128 + c .from-leaf .result) (c .args .found) (omega arith) (matched-known (s .nodes) (s .matched))) ∣₁, tt),
+    )
 
 pub returns : need.returns
 returns c =

@@ -9,14 +9,14 @@ use Rattle.calendar_queue.proofs.Order.{leads-empty, leads-both}
 use Rattle.calendar_queue.proofs.Walks.{past-leads}
 use Rattle.calendar_queue.proofs.lists.Lists.goes_on.Needs as need
 
-pub returns-then-slot-ge12352 : need.returns-then-slot-ge12352
-returns-then-slot-ge12352 c =
+pub returns-then-slot-ge-STARTS : need.returns-then-slot-ge-STARTS
+returns-then-slot-ge-STARTS c =
     let s = c .args .self .now in
     sym
     (subst
     (λ (k : ℕ). leads (links (s .next) k) (table (s .moments) (links (s .next) k)) (c .args .wanted .slot) (Some (c .args .wanted .moment)) ≡ false)
     (c .from .ensures)
-    (past-leads (s .moments) (links (s .next) (c .from .result)) (c .args .wanted .slot) (Some (c .args .wanted .moment)) (s .held) (c .if-slot-ge12352 .taken)))
+    (past-leads (s .moments) (links (s .next) (c .from .result)) (c .args .wanted .slot) (Some (c .args .wanted .moment)) (s .held) (c .if-slot-ge-STARTS .taken)))
 
 pub returns-in-Some : need.returns-in-Some
 returns-in-Some c =
@@ -25,7 +25,7 @@ returns-in-Some c =
     (λ (k : ℕ). c .before-in-Some .result ≡ leads (links (s .next) k) (table (s .moments) (links (s .next) k)) (c .args .wanted .slot) (Some (c .args .wanted .moment)))
     (c .from .ensures)
     (c .before-in-Some .ensures
-     ∙ sym (leads-both _ _ (table (s .moments) (links (s .next) (c .from .result))) (Some (c .args .wanted .moment)) (c .in-Some .moment) (c .args .wanted .moment) (sym (c .in-Some .ensures tt)) refl))
+    ∙ sym (leads-both _ _ (table (s .moments) (links (s .next) (c .from .result))) (Some (c .args .wanted .moment)) (c .in-Some .moment) (c .args .wanted .moment) (sym (c .in-Some .ensures tt)) refl))
 
 pub returns-in-None : need.returns-in-None
 returns-in-None c =
@@ -35,4 +35,4 @@ returns-in-None c =
     (λ (k : ℕ). leads (links (s .next) k) (table (s .moments) (links (s .next) k)) (c .args .wanted .slot) (Some (c .args .wanted .moment)) ≡ false)
     (c .from .ensures)
     (ap (λ o. leads (links (s .next) (c .from .result)) o (c .args .wanted .slot) (Some (c .args .wanted .moment))) (sym (c .in-None .ensures tt))
-     ∙ leads-empty _ _ _))
+    ∙ leads-empty _ _ _))

@@ -4,11 +4,11 @@ use Rattle.calendar_queue.proofs.Walks.{table-bounded}
 use Rattle.calendar_queue.proofs.Changes.{head-none, head-some}
 use Rattle.calendar_queue.proofs.lists.Lists.head.Needs as need
 
-pub returns-then-slot-ge12352 : need.returns-then-slot-ge12352
-returns-then-slot-ge12352 c =
+pub returns-then-slot-ge-STARTS : need.returns-then-slot-ge-STARTS
+returns-then-slot-ge-STARTS c =
     let s = c .args .self .now in
     head-none (s .moments) (s .next) (c .args .number) (c .from .result) (c .from .ensures)
-    (table-bounded (s .moments) (s .held) (links (s .next) (c .from .result)) (c .if-slot-ge12352 .taken))
+    (table-bounded (s .moments) (s .held) (links (s .next) (c .from .result)) (c .if-slot-ge-STARTS .taken))
 
 pub returns-in-Some : need.returns-in-Some
 returns-in-Some c =

@@ -31,20 +31,24 @@ ghost-self c =
     let m = c .args .moment in
     let e = c .seek-place .ensures in
     let w = link-writes (λ (us : List (Option Moment)) (vs : List ℕ). Linked us vs) (s .moments) (s .next) (Some m) (c .args .slot) (c .seek-place .result) (c .from .result) (c .from-2 .result) (c .from-3 .result) (c .from-4 .result)
-            (c .from .ensures) (c .from-2 .ensures) (c .from-3 .ensures) (c .from-4 .ensures)
-            (link-right (s .moments) (s .next) (c .args .slot) (c .seek-place .result) m (s .held) (s .placed) (linked-known (s .moments) (s .next) (s .linked)) (c .pre .inside) (e .stands) (e .opens) (e .last) (c .pre .empty)) in
-    ( length-set (s .moments) _ _ ∙ s .held
-    , ( length-set _ _ _ ∙ length-set (s .next) _ _ ∙ s .placed
-      , (∣ w ∣₁, tt) ) )
+    (c .from .ensures) (c .from-2 .ensures) (c .from-3 .ensures) (c .from-4 .ensures)
+    (link-right (s .moments) (s .next) (c .args .slot) (c .seek-place .result) m (s .held) (s .placed) (linked-known (s .moments) (s .next) (s .linked)) (c .pre .inside) (e .stands) (e .opens) (e .last) (c .pre .empty)) in (
+      length-set (s .moments) _ _ ∙ s .held,
+      (
+        length-set _ _ _ ∙ length-set (s .next) _ _ ∙ s .placed,
+        (∣ w ∣₁, tt),
+      ),
+    )
 
 pub returns : need.returns
 returns c =
     let s = c .args .self .now in
     let m = c .args .moment in
     let e = c .seek-place .ensures in
-    record
-      { moments = ap (λ (k : ℕ). set (s .moments) k (Some m)) (c .from-4 .ensures)
-      ; others = λ b lb ne.
-            link-writes (λ (us : List (Option Moment)) (vs : List ℕ). head-of us vs b ≡ head-of (s .moments) (s .next) b) (s .moments) (s .next) (Some m) (c .args .slot) (c .seek-place .result) (c .from .result) (c .from-2 .result) (c .from-3 .result) (c .from-4 .result)
-            (c .from .ensures) (c .from-2 .ensures) (c .from-3 .ensures) (c .from-4 .ensures)
-            (link-heads (s .moments) (s .next) (c .args .slot) (c .seek-place .result) m (s .held) (s .placed) (linked-known (s .moments) (s .next) (s .linked)) (c .pre .inside) (e .stands) (e .opens) (e .last) (c .pre .empty) b lb ne) }
+    record {
+      moments = ap (λ (k : ℕ). set (s .moments) k (Some m)) (c .from-4 .ensures);
+      others = λ b lb ne.
+          link-writes (λ (us : List (Option Moment)) (vs : List ℕ). head-of us vs b ≡ head-of (s .moments) (s .next) b) (s .moments) (s .next) (Some m) (c .args .slot) (c .seek-place .result) (c .from .result) (c .from-2 .result) (c .from-3 .result) (c .from-4 .result)
+          (c .from .ensures) (c .from-2 .ensures) (c .from-3 .ensures) (c .from-4 .ensures)
+          (link-heads (s .moments) (s .next) (c .args .slot) (c .seek-place .result) m (s .held) (s .placed) (linked-known (s .moments) (s .next) (s .linked)) (c .pre .inside) (e .stands) (e .opens) (e .last) (c .pre .empty) b lb ne);
+    }

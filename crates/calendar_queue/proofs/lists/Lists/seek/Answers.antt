@@ -14,9 +14,10 @@ add-place c = let l = bucket-below (c .args .wanted .moment) in omega (arith, c 
 
 pub loop-wanted-holds : need.loop-wanted-holds
 loop-wanted-holds c =
-    let t = table (c .args .self .now .moments) in
-    ( subst (λ (k : ℕ). stands t (12352 + k) (bucket (c .args .wanted .moment)) ≡ true) (sym (c .bucket-of-place .ensures)) (begins t (bucket (c .args .wanted .moment)))
-    , opens-start t _ _ _ (omega arith) )
+    let t = table (c .args .self .now .moments) in (
+      subst (λ (k : ℕ). stands t (12352 + k) (bucket (c .args .wanted .moment)) ≡ true) (sym (c .bucket-of-place .ensures)) (begins t (bucket (c .args .wanted .moment))),
+      opens-start t _ _ _ (omega arith),
+    )
 
 pub goes-on-requires : need.goes-on-requires
 goes-on-requires c κs =
