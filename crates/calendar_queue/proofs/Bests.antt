@@ -1,21 +1,21 @@
 -- The tournament's best is the calendar's first.
 use mathlib.Core.Path.{_≡_, refl, sym, ap, _∙_, subst}
-use mathlib.Core.Bool.{Bool, true, false, cond}
+use mathlib.Core.Bool.{true, false, cond}
 use mathlib.Core.List.{List}
-use mathlib.Core.Logic.{_⊎_, inl, inr, ⊎-elim, ∥∥₁-elim}
+use mathlib.Core.Logic.{_⊎_, ⊎-elim, ∥∥₁-elim}
 use mathlib.Core.HLevel.{Π-prop, →-prop}
-use Prim.Native.Nat.{ℕ, zero, suc, _+_, _<_, _≤_}
+use Prim.Native.Nat.{ℕ, _+_, _<_, _≤_}
 use native.Mathlib.Omega.{arith}
 use lib.Dec.{eqb, ltb}
-use lib.ListN.{length, getD, set}
+use lib.ListN.{length, set}
 use Rattle.std.proofs.shelf.Lists.{set-set, set-getD}
 use Rattle.std.proofs.shelf.Tests.{both-ways, cases-eq, eq-eqb, ne-eqb, le-ltb}
 use Rattle.std.specs.declared.option.Option.{Option}
 use Rattle.std.specs.declared.option.Option.the-variants.{Some, None}
 use Rattle.rules.specs.Basics.{put}
-use Rattle.rules.specs.Fractions.{Usual, Proper}
+use Rattle.rules.specs.Fractions.{Usual}
 use Rattle.rules.specs.Stamps.{Stamp, is-earlier}
-use Rattle.rules.specs.Slots.{Queue, First}
+use Rattle.rules.specs.Slots.{First}
 use Rattle.times.specs.declared.moment.Moment.{Moment}
 use Rattle.times.specs.Of.{moment-of}
 use Rattle.times.proofs.Times.{times-usual}
@@ -23,7 +23,7 @@ use Rattle.queues.specs.Meanings.{stored, changed, soonest}
 use Rattle.queues.specs.Laws.{Held}
 use Rattle.queues.proofs.Firsts.{first-only}
 use Rattle.calendar_queue.specs.declared.entry.Entry.{Entry}
-use Rattle.calendar_queue.specs.Entries.{bucket, ahead, leads, lies}
+use Rattle.calendar_queue.specs.Entries.{bucket, ahead, lies}
 use Rattle.calendar_queue.specs.Links.{table, links, stands, opens, Follows, Linked}
 use Rattle.calendar_queue.specs.Heads.{entry-at, head-of}
 use Rattle.calendar_queue.specs.Crowns.{node, Matched}
@@ -53,9 +53,6 @@ module _ (ms : List (Option Moment)) (ns : List ℕ) (es : List (Option Entry)) 
   -- of each slot's bucket the first entry stands in a leaf, and the slot is not ahead of it
   in-leaf : (k : ℕ) (m : Moment) → table ms k ≡ Some m → (e : Entry) × ((node es (128 + bucket m) ≡ Some e) × (ahead k m (e .slot) (e .moment) ≡ false))
   in-leaf k m h =
-      let t = table ms in
-      let p = 12352 + bucket m in
-      let n = links ns (12352 + bucket m) in
       let f : Follows (table ms) (bucket m) (12352 + bucket m) (links ns (12352 + bucket m)) = linked (12352 + bucket m) (bucket m) (bucket-below m) (begins (table ms) (bucket m)) in
       let lk : lies (table ms k) (bucket m) ≡ true = ap (λ o. lies o (bucket m)) h ∙ lies-bucket m in
       let ok : opens (table ms) (12352 + bucket m) k (table ms k) ≡ true = opens-start (table ms) (12352 + bucket m) k (table ms k) (omega arith) in

@@ -1,16 +1,16 @@
 -- Linking a slot into its bucket and unlinking it keep every place right.
 use mathlib.Core.Path.{_≡_, refl, sym, ap, _∙_, subst}
-use mathlib.Core.Bool.{Bool, true, false, cond}
-use mathlib.Core.Logic.{_⊎_, inl, inr, ⊎-elim}
-use Prim.Native.Nat.{ℕ, zero, suc, _+_, _<_, _≤_}
+use mathlib.Core.Bool.{true, false}
+use mathlib.Core.Logic.{_⊎_, ⊎-elim}
+use Prim.Native.Nat.{ℕ, _+_, _<_}
 use native.Mathlib.Omega.{arith}
-use Rattle.std.proofs.shelf.Tests.{both-ways, cases-bool, cases-lt, cases-eq}
+use Rattle.std.proofs.shelf.Tests.{both-ways, cases-bool, cases-eq}
 use Rattle.std.specs.declared.option.Option.{Option}
 use Rattle.std.specs.declared.option.Option.the-variants.{Some, None}
 use Rattle.times.specs.declared.moment.Moment.{Moment}
 use Rattle.calendar_queue.specs.Entries.{bucket, leads, lies}
 use Rattle.calendar_queue.specs.Links.{Table, stands, opens, Follows}
-use Rattle.calendar_queue.proofs.Order.{leads-chain, leads-never, leads-apart, leads-none, leads-total, lies-none, lies-one, lies-bucket, lies-below}
+use Rattle.calendar_queue.proofs.Order.{leads-chain, leads-never, leads-total, lies-none, lies-one, lies-bucket, lies-below}
 use Rattle.calendar_queue.proofs.Places.{Bounded, Comes, lies-slot, stands-slot, opens-slot, stands-at, opens-at, stands-one, opens-chain, places-total, follows-at, begins}
 
 -- every place names what follows
@@ -42,9 +42,6 @@ module _ (t u : Table) (f g : ℕ → ℕ) (x p : ℕ) (m : Moment) (bd : Bounde
     (inside : x < 12352) (empty : t x ≡ None) (put : u x ≡ Some m) (but : But t u x)
     (gx : g x ≡ f p) (gp : g p ≡ x) (gk : (k : ℕ) → (k ≡ x → ⊥) → (k ≡ p → ⊥) → g k ≡ f k)
     (sp : stands t p (bucket m) ≡ true) (op : opens t p x (Some m) ≡ true) (last : leads (f p) (t (f p)) x (Some m) ≡ false) where
-  b : ℕ
-  b = bucket m
-
   -- a slot of a bucket is another than x
   apart : (k a : ℕ) → lies (t k) a ≡ true → k ≡ x → ⊥
   apart k a h e = both-ways (lies (t k) a) (ap (λ i. lies (t i) a) e ∙ ap (λ o. lies o a) empty ∙ lies-none a) h

@@ -1,19 +1,18 @@
 -- What the writes of linking and unlinking leave in the two tables.
 use mathlib.Core.Path.{_≡_, refl, sym, ap, _∙_, subst}
-use mathlib.Core.Bool.{Bool, true, false}
+use mathlib.Core.Bool.{true, false}
 use mathlib.Core.List.{List}
 use mathlib.Core.Logic.{_⊎_, ⊎-elim}
-use Prim.Native.Nat.{ℕ, _+_, _<_, _≤_}
+use Prim.Native.Nat.{ℕ, _+_, _<_}
 use native.Mathlib.Omega.{arith}
-use lib.ListN.{length, getD, set, replicate}
+use lib.ListN.{length, set, replicate}
 use Rattle.std.proofs.shelf.Lists.{getD-past, getD-set-same, getD-set-other, getD-replicate, length-set, length-replicate}
 use Rattle.std.proofs.shelf.Tests.{both-ways, cases-lt}
 use Rattle.std.specs.declared.option.Option.{Option}
 use Rattle.std.specs.declared.option.Option.the-variants.{Some, None}
 use Rattle.times.specs.declared.moment.Moment.{Moment}
-use Rattle.calendar_queue.specs.declared.entry.Entry.{Entry}
 use Rattle.calendar_queue.specs.Entries.{bucket, leads, lies}
-use Rattle.calendar_queue.specs.Links.{Table, table, links, stands, opens, Follows, Linked}
+use Rattle.calendar_queue.specs.Links.{table, links, stands, opens, Linked}
 use Rattle.calendar_queue.specs.Heads.{entry-at, head-of}
 use Rattle.calendar_queue.proofs.Order.{lies-none, lies-one, lies-bucket}
 use Rattle.calendar_queue.proofs.Places.{stands-below, apart-empty, apart-opens}

@@ -4,12 +4,12 @@ use mathlib.Core.Bool.{Bool, true, false, cond}
 use mathlib.Core.List.{List}
 use mathlib.Core.Logic.{_⊎_, inl, inr, ⊎-elim, ∥∥₁-elim}
 use mathlib.Core.HLevel.{Π-prop, →-prop}
-use base.Stored.{Coded, coded-set, codedVia, coded⊎, coded×, codedUnit, codedℕ, codedBool}
+use base.Stored.{coded-set, codedVia, coded⊎, coded×, codedUnit, codedℕ, codedBool}
 use Prim.Native.Nat.{ℕ, zero, suc, _+_, _-_, _*_, _/_, _<_, _≤_}
 use native.Mathlib.Omega.{arith}
 use lib.Dec.{eqb}
 use lib.ListN.{length, getD, set, replicate}
-use Rattle.std.proofs.shelf.Lists.{getD-past, getD-read, getD-set-same, getD-set-other, getD-replicate, length-set, length-replicate}
+use Rattle.std.proofs.shelf.Lists.{getD-past, getD-read, getD-set-same, getD-set-other, getD-replicate, length-replicate}
 use Rattle.std.proofs.shelf.Tests.{both-ways, cases-bool, cases-lt, cases-eq, eq-eqb, ne-eqb}
 use Rattle.std.specs.declared.option.Option.{Option}
 use Rattle.std.specs.declared.option.Option.the-variants.{Some, None}
@@ -162,9 +162,6 @@ leaf-set ns k v h m i p l ne = won-stays ns k i v (λ e. omega arith) (λ e. ne 
 pub match-step : (ns : List (Option Entry)) (j : ℕ) → length ns ≡ 256 → 0 < j → j < 128 → MatchedBut ns j → MatchedBut (set ns j (better (node ns (2 * j)) (node ns (2 * j + 1)))) (j / 2)
 match-step ns j size p l m i ip il ne = ⊎-elim here other (cases-eq i j)
   where
-    v : Option Entry
-    v = better (node ns (2 * j)) (node ns (2 * j + 1))
-
     won : Won (set ns j (better (node ns (2 * j)) (node ns (2 * j + 1)))) j
     won =
         getD-set-same ns j _ None (omega arith)

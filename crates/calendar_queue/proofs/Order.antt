@@ -1,16 +1,15 @@
 -- The order of entries is strict and total.
-use mathlib.Core.Path.{_≡_, refl, sym, ap, _∙_, subst}
+use mathlib.Core.Path.{_≡_, refl, sym, _∙_}
 use mathlib.Core.Bool.{Bool, true, false, not, _&&_, _||_}
-use mathlib.Core.Logic.{_⊎_, inl, inr, ⊎-elim}
-use Prim.Native.Nat.{ℕ, _<_, _≤_, _%_}
+use mathlib.Core.Logic.{_⊎_, ⊎-elim}
+use Prim.Native.Nat.{ℕ, _<_, _≤_}
 use native.Mathlib.Omega.{arith}
-use lib.Dec.{eqb, ltb}
+use lib.Dec.{ltb}
 use Rattle.std.proofs.shelf.Tests.{both-ways, cases-bool, eqb-true}
 use Rattle.std.proofs.shelf.Ways.{tells}
 use Rattle.std.specs.declared.option.Option.{Option}
 use Rattle.std.specs.declared.option.Option.the-variants.{Some, None}
-use Rattle.rules.specs.Stamps.{Stamp, is-earlier}
-use Rattle.rules.specs.Fractions.{Proper, whole}
+use Rattle.rules.specs.Stamps.{is-earlier}
 use Rattle.rules.proofs.Stamped.{asym}
 use Rattle.times.specs.declared.moment.Moment.{Moment}
 use Rattle.times.specs.Of.{moment-of}
@@ -75,18 +74,6 @@ pub leads-never : (i : ℕ) (x : Option Moment) → leads i x i x ≡ false
 unfolding leads
 leads-never i None = refl
 leads-never i (Some x) = ahead-never i x
-
-pub leads-apart : (i j : ℕ) (x y : Option Moment) → leads i x j y ≡ true → leads j y i x ≡ false
-leads-apart i j x y h =
-    ⊎-elim
-    (λ t. absurd (both-ways (leads i x i x) (leads-never i x) (leads-chain i j i x y x h t)))
-    (λ f. f)
-    (cases-bool (leads j y i x))
-
-pub leads-none : (i j : ℕ) (x : Option Moment) → leads i x j None ≡ false
-unfolding leads
-leads-none i j None = refl
-leads-none i j (Some x) = refl
 
 pub lies-none : (b : ℕ) → lies None b ≡ false
 unfolding lies

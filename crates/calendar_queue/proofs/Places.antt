@@ -1,18 +1,17 @@
 -- Places of a bucket: its start, and the slots that lie in it.
 use mathlib.Core.Path.{_≡_, refl, sym, ap, _∙_, subst}
-use mathlib.Core.Bool.{Bool, true, false, cond}
+use mathlib.Core.Bool.{true, cond}
 use mathlib.Core.Logic.{_⊎_, inl, inr, ⊎-elim}
-use mathlib.Core.HLevel.{isProp→PathP}
-use Prim.Native.Nat.{ℕ, zero, suc, _+_, _<_, _≤_}
+use Prim.Native.Nat.{ℕ, _+_, _<_, _≤_}
 use native.Mathlib.Omega.{arith}
 use lib.Dec.{eqb, ltb}
-use Rattle.std.proofs.shelf.Tests.{both-ways, cases-bool, cases-lt, cases-eq, lt-ltb, le-ltb, eq-eqb, eqb-true}
+use Rattle.std.proofs.shelf.Tests.{both-ways, cases-bool, cases-lt, lt-ltb, le-ltb, eq-eqb, eqb-true}
 use Rattle.std.specs.declared.option.Option.{Option}
-use Rattle.std.specs.declared.option.Option.the-variants.{Some, None}
+use Rattle.std.specs.declared.option.Option.the-variants.{None}
 use Rattle.times.specs.declared.moment.Moment.{Moment}
 use Rattle.calendar_queue.specs.Entries.{bucket, leads, lies}
 use Rattle.calendar_queue.specs.Links.{Table, stands, opens, Follows}
-use Rattle.calendar_queue.proofs.Order.{leads-chain, leads-never, leads-none, leads-total, lies-none, lies-one}
+use Rattle.calendar_queue.proofs.Order.{leads-chain, leads-never, leads-total, lies-none, lies-one}
 
 -- no slot above the last holds a moment
 abbrev pub Bounded : Table → Type 0

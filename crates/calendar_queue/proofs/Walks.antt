@@ -1,15 +1,15 @@
 -- Walking along a bucket: every step leaves fewer slots ahead.
-use mathlib.Core.Path.{_≡_, refl, sym, ap, _∙_, subst}
+use mathlib.Core.Path.{_≡_, sym, ap, _∙_, subst}
 use mathlib.Core.Bool.{Bool, true, false, cond, _&&_, Bool-set}
 use mathlib.Core.List.{List}
-use mathlib.Core.Logic.{_⊎_, inl, inr, ⊎-elim, ∥∥₁-elim}
+use mathlib.Core.Logic.{_⊎_, ⊎-elim, ∥∥₁-elim}
 use mathlib.Core.HLevel.{Π-prop, →-prop}
-use Prim.Native.Nat.{ℕ, zero, suc, _+_, _<_, _≤_}
+use Prim.Native.Nat.{ℕ, zero, suc, _<_, _≤_}
 use native.Mathlib.Omega.{arith}
 use native.Mathlib.Bridge.{le-prop}
-use lib.ListN.{length, getD}
+use lib.ListN.{length}
 use Rattle.std.proofs.shelf.Lists.{getD-past}
-use Rattle.std.proofs.shelf.Tests.{both-ways, cases-bool, cases-lt, cases-eq, and-parts, and-from, and-right, cond-true, cond-false}
+use Rattle.std.proofs.shelf.Tests.{both-ways, cases-bool, cases-lt, cases-eq, and-parts, and-from, and-right}
 use Rattle.std.specs.declared.option.Option.{Option}
 use Rattle.std.specs.declared.option.Option.the-variants.{Some, None}
 use Rattle.times.specs.declared.moment.Moment.{Moment}
@@ -80,16 +80,16 @@ pub record Step (t : Table) (b p n x : ℕ) (m : Moment) : Type 0 where
   pub opens : opens t n x (Some m) ≡ true
   pub less : ahead-of t b n < ahead-of t b p
 
-pub step : (t : Table) (f : ℕ → ℕ) (b p x : ℕ) (m : Moment) → Bounded t → Right t f → b < 128 → stands t p b ≡ true → leads (f p) (t (f p)) x (Some m) ≡ true → Step t b p (f p) x m
+pub step : (t : Table) (f : ℕ → ℕ) (b p x : ℕ) (m : Moment) → Bounded t → Right t f → b < 128 → stands t p b ≡ true → true ≡ leads (f p) (t (f p)) x (Some m) → Step t b p (f p) x m
 unfolding ahead-of
 step t f b p x m bd right lb sp h =
-    record { within = l; stands = stands-slot t (f p) b l ∙ was .inside l; opens = opens-slot t (f p) x (Some m) l ∙ h; less = count-less _ _ 12352 fewer (f p) l mine gone }
+    record { within = l; stands = stands-slot t (f p) b l ∙ was .inside l; opens = opens-slot t (f p) x (Some m) l ∙ sym h; less = count-less _ _ 12352 fewer (f p) l mine gone }
   where
     l : f p < 12352
     l =
         ⊎-elim
         (λ k. k)
-        (λ k. absurd (both-ways _ (ap (λ o. leads (f p) o x (Some m)) (bd (f p) k) ∙ leads-empty (f p) x (Some m)) h))
+        (λ k. absurd (both-ways _ (ap (λ o. leads (f p) o x (Some m)) (bd (f p) k) ∙ leads-empty (f p) x (Some m)) (sym h)))
         (cases-lt (f p) 12352)
 
     was : Follows t b p (f p)

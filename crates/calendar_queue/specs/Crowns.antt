@@ -1,5 +1,5 @@
 -- A tournament of entries: each inner node holds the better of the two below it, so node 1 holds the best of all.
-use mathlib.Core.Bool.{Bool, cond}
+use mathlib.Core.Bool.{cond}
 use mathlib.Core.List.{List}
 use mathlib.Core.Path.{_≡_}
 use Prim.Native.Nat.{ℕ, _+_, _*_, _<_}

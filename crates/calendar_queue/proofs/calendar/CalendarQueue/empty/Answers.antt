@@ -1,8 +1,5 @@
-use mathlib.Core.Path.{_≡_, sym, ap, _∙_, subst}
-use Prim.Native.Nat.{_<_}
+use mathlib.Core.Path.{sym, _∙_}
 use native.Mathlib.Omega.{arith}
-use lib.ListN.{set}
-use Rattle.std.specs.declared.option.Option.the-variants.{Some, None}
 use Rattle.calendar_queue.specs.Entries.{bucket}
 use Rattle.calendar_queue.proofs.Walks.{bucket-below}
 use Rattle.calendar_queue.proofs.Bests.{agree-known, agree-after, set-none, kept-removed}

@@ -1,4 +1,3 @@
-use Prim.Native.Nat.{_<_}
 use native.Mathlib.Omega.{arith}
 use Rattle.calendar_queue.specs.Entries.{bucket}
 use Rattle.calendar_queue.proofs.Walks.{bucket-below}

@@ -1,4 +1,4 @@
-use mathlib.Core.Path.{_≡_, refl}
+use mathlib.Core.Path.{refl}
 use Rattle.calendar_queue.proofs.Matches.{no-nodes, no-matches}
 use Rattle.calendar_queue.proofs.crown.Crown.new.Needs as need
 

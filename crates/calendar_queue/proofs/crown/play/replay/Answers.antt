@@ -1,7 +1,6 @@
-use mathlib.Core.Path.{_≡_, refl, sym, ap, _∙_, subst}
-use Prim.Native.Nat.{ℕ, _/_, _<_}
+use mathlib.Core.Path.{_∙_}
+use Prim.Native.Nat.{_/_, _<_}
 use native.Mathlib.Omega.{arith}
-use lib.ListN.{length, getD, set}
 use Rattle.std.proofs.shelf.Lists.{length-set, getD-set-other}
 use Rattle.std.specs.declared.option.Option.the-variants.{None}
 use Rattle.calendar_queue.proofs.Matches.{replayed, all-matched}

@@ -1,5 +1,4 @@
-use mathlib.Core.Path.{_≡_, sym}
-use mathlib.Core.Bool.{true, false}
+use mathlib.Core.Path.{sym}
 use Rattle.calendar_queue.specs.Entries.{ahead}
 use Rattle.calendar_queue.proofs.entry.Entry.before.Needs as need
 

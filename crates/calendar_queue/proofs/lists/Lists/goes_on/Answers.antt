@@ -1,8 +1,7 @@
 use mathlib.Core.Path.{_≡_, refl, sym, ap, _∙_, subst}
 use mathlib.Core.Bool.{false}
 use Prim.Native.Nat.{ℕ}
-use lib.ListN.{getD}
-use Rattle.std.specs.declared.option.Option.the-variants.{Some, None}
+use Rattle.std.specs.declared.option.Option.the-variants.{Some}
 use Rattle.calendar_queue.specs.Entries.{leads}
 use Rattle.calendar_queue.specs.Links.{table, links}
 use Rattle.calendar_queue.proofs.Order.{leads-empty, leads-both}

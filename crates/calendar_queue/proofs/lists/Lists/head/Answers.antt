@@ -1,4 +1,4 @@
-use mathlib.Core.Path.{_≡_, sym}
+use mathlib.Core.Path.{sym}
 use Rattle.calendar_queue.specs.Links.{links}
 use Rattle.calendar_queue.proofs.Walks.{table-bounded}
 use Rattle.calendar_queue.proofs.Changes.{head-none, head-some}

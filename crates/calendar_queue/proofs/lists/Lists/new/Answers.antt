@@ -1,9 +1,8 @@
-use mathlib.Core.Path.{_≡_, refl}
+use mathlib.Core.Path.{refl}
 use Prim.Native.Nat.{ℕ}
-use lib.ListN.{length, replicate}
 use Rattle.std.proofs.shelf.Lists.{length-replicate}
 use Rattle.std.specs.declared.option.Option.{Option}
-use Rattle.std.specs.declared.option.Option.the-variants.{Some, None}
+use Rattle.std.specs.declared.option.Option.the-variants.{None}
 use Rattle.times.specs.declared.moment.Moment.{Moment}
 use Rattle.calendar_queue.proofs.Changes.{empty-table, empty-linked, empty-head}
 use Rattle.calendar_queue.proofs.lists.Lists.new.Needs as need

@@ -1,8 +1,7 @@
-use mathlib.Core.Path.{_≡_, refl, sym, ap, _∙_, subst}
+use mathlib.Core.Path.{_≡_, sym, subst}
 use mathlib.Core.Bool.{true}
 use Prim.Native.Nat.{ℕ, _+_, _<_}
 use native.Mathlib.Omega.{arith}
-use Rattle.std.specs.declared.option.Option.the-variants.{Some, None}
 use Rattle.calendar_queue.specs.Entries.{bucket}
 use Rattle.calendar_queue.specs.Links.{table, links, stands}
 use Rattle.calendar_queue.proofs.Places.{begins, opens-start, stands-below}
@@ -42,7 +41,7 @@ gone-on c =
     subst
     (λ (k : ℕ). Step t (bucket m) (c .loop-wanted .place) (links (s .next) k) (c .args .wanted .slot) m)
     (sym (c .from .ensures))
-    (step t (links (s .next)) (bucket m) (c .loop-wanted .place) (c .args .wanted .slot) m (table-bounded (s .moments) (s .held)) (linked-known (s .moments) (s .next) (s .linked)) (bucket-below m) (c .loop-wanted .inv .0) (sym (c .loop-wanted-test .ensures tt)))
+    (step t (links (s .next)) (bucket m) (c .loop-wanted .place) (c .args .wanted .slot) m (table-bounded (s .moments) (s .held)) (linked-known (s .moments) (s .next) (s .linked)) (bucket-below m) (c .loop-wanted .inv .0) (c .loop-wanted-test .ensures tt))
 
 pub loop-wanted-less : need.loop-wanted-less
 loop-wanted-less c = gone-on c .less

@@ -1,14 +1,14 @@
-use mathlib.Core.Path.{_≡_, refl, sym, ap, _∙_, subst}
+use mathlib.Core.Path.{_≡_, ap, _∙_}
 use mathlib.Core.List.{List}
 use Prim.Native.Nat.{ℕ, _<_}
 use native.Mathlib.Omega.{arith}
-use lib.ListN.{length, set}
+use lib.ListN.{set}
 use Rattle.std.proofs.shelf.Lists.{length-set}
 use Rattle.std.specs.declared.option.Option.{Option}
-use Rattle.std.specs.declared.option.Option.the-variants.{Some, None}
+use Rattle.std.specs.declared.option.Option.the-variants.{None}
 use Rattle.times.specs.declared.moment.Moment.{Moment}
 use Rattle.calendar_queue.specs.Entries.{bucket}
-use Rattle.calendar_queue.specs.Links.{table, links, Linked}
+use Rattle.calendar_queue.specs.Links.{table, Linked}
 use Rattle.calendar_queue.specs.Heads.{head-of}
 use Rattle.calendar_queue.proofs.Walks.{linked-known, bucket-below}
 use Rattle.calendar_queue.proofs.Places.{stands-below}
