@@ -154,11 +154,11 @@ record-one tag h l a b n0 n1 n2 n3 d0 d1 r f e =
     let num : t .num < 2 ^ 32 = omega arith in
     let den : t .den < 2 ^ 16 = omega arith in
     let after : (k : ℕ) → k ≡ tag → k ∷ 0 ∷ 8 ∷ a ∷ b ∷ (bytes 4 (t .num) ++ bytes 2 (t .den)) ≡ tag ∷ h ∷ l ∷ a ∷ b ∷ n0 ∷ n1 ∷ n2 ∷ n3 ∷ d0 ∷ d1 ∷ [] =
-        λ k g. ap (λ (x : List ℕ). k ∷ 0 ∷ 8 ∷ a ∷ b ∷ (x ++ bytes 2 (t .den))) (bytes4 n0 n1 n2 n3 m0 m1 m2 m3)
-        ∙ ap (λ (x : List ℕ). k ∷ 0 ∷ 8 ∷ a ∷ b ∷ n0 ∷ n1 ∷ n2 ∷ n3 ∷ x) (bytes2 d0 d1 q0 q1)
-        ∙ ap (λ (x : ℕ). x ∷ 0 ∷ 8 ∷ a ∷ b ∷ n0 ∷ n1 ∷ n2 ∷ n3 ∷ d0 ∷ d1 ∷ []) g
-        ∙ ap (λ (x : ℕ). tag ∷ x ∷ 8 ∷ a ∷ b ∷ n0 ∷ n1 ∷ n2 ∷ n3 ∷ d0 ∷ d1 ∷ []) high
-        ∙ ap (λ (x : ℕ). tag ∷ h ∷ x ∷ a ∷ b ∷ n0 ∷ n1 ∷ n2 ∷ n3 ∷ d0 ∷ d1 ∷ []) low in
+    λ k g. ap (λ (x : List ℕ). k ∷ 0 ∷ 8 ∷ a ∷ b ∷ (x ++ bytes 2 (t .den))) (bytes4 n0 n1 n2 n3 m0 m1 m2 m3)
+    ∙ ap (λ (x : List ℕ). k ∷ 0 ∷ 8 ∷ a ∷ b ∷ n0 ∷ n1 ∷ n2 ∷ n3 ∷ x) (bytes2 d0 d1 q0 q1)
+    ∙ ap (λ (x : ℕ). x ∷ 0 ∷ 8 ∷ a ∷ b ∷ n0 ∷ n1 ∷ n2 ∷ n3 ∷ d0 ∷ d1 ∷ []) g
+    ∙ ap (λ (x : ℕ). tag ∷ x ∷ 8 ∷ a ∷ b ∷ n0 ∷ n1 ∷ n2 ∷ n3 ∷ d0 ∷ d1 ∷ []) high
+    ∙ ap (λ (x : ℕ). tag ∷ h ∷ x ∷ a ∷ b ∷ n0 ∷ n1 ∷ n2 ∷ n3 ∷ d0 ∷ d1 ∷ []) low in
     let G : Report → Type 0 = Is-record (tag ∷ h ∷ l ∷ a ∷ b ∷ n0 ∷ n1 ∷ n2 ∷ n3 ∷ d0 ∷ d1 ∷ []) in
     ⊎-elim
     (λ p. subst G (sym (p .1)) (after 1 (sym (eqb-true tag 1 (p .0))), record { craft = (fa, fb); num = num; den = den }))
@@ -205,9 +205,10 @@ only-in (suc k) (b ∷ bs) rs f e =
     let t = both-told (report-in (take 11 (b ∷ bs))) (reports-in k (drop 11 (b ∷ bs))) rs e in
     let one = record-only (take 11 (b ∷ bs)) (t .0) (fit-take 11 (b ∷ bs) f) (t .2 .0) in
     let more = only-in k (drop 11 (b ∷ bs)) (t .1) (fit-drop 11 (b ∷ bs) f) (t .2 .1) in
-    subst (λ (q : List Report). (page-of q ≡ b ∷ bs) × Reports-fit q) (sym (t .2 .2))
-    (ap (λ (x : List ℕ). x ++ page-of (t .1)) (one .0) ∙ ap (λ (y : List ℕ). take 11 (b ∷ bs) ++ y) (more .0) ∙ take-append-drop 11 (b ∷ bs),
-     (one .1, more .1))
+    subst (λ (q : List Report). (page-of q ≡ b ∷ bs) × Reports-fit q) (sym (t .2 .2)) (
+      ap (λ (x : List ℕ). x ++ page-of (t .1)) (one .0) ∙ ap (λ (y : List ℕ). take 11 (b ∷ bs) ++ y) (more .0) ∙ take-append-drop 11 (b ∷ bs),
+      (one .1, more .1),
+    )
 
 pub only : Only-pages
 only bs rs f e = only-in (length bs) bs rs f e

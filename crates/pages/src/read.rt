@@ -3,7 +3,6 @@ ghost use mathlib.Core.Path.{_≡_};
 ghost use lib.ListN.{take};
 ghost use Rattle.rules.specs.Pages.{report-in};
 ghost use Rattle.pages.specs.Of.{kind-of, record-in, next-in, left-after, answer-of};
-
 use crate::report::Kind;
 use crate::report::Record;
 
@@ -39,7 +38,13 @@ fn first_record(bytes: &[u8]) -> Option<Record>
     let kind = kind(bytes[0])?;
     let n = u32::from_be_bytes([bytes[5], bytes[6], bytes[7], bytes[8]]);
     let d = u16::from_be_bytes([bytes[9], bytes[10]]);
-    Some(Record { kind, lower: bytes[3], higher: bytes[4], n, d })
+    Some(Record {
+        kind,
+        lower: bytes[3],
+        higher: bytes[4],
+        n,
+        d,
+    })
 }
 
 impl<'a> Reader<'a> {

@@ -5,7 +5,6 @@ ghost use Prim.Native.Nat.{_+_, _≤_};
 ghost use lib.ListN.{length, take, drop};
 ghost use Rattle.rules.specs.Pages.{page-record};
 ghost use Rattle.pages.specs.Of.{report-of, tag-of, page-after, used-after};
-
 use crate::report::Kind;
 use crate::report::Report;
 
@@ -26,10 +25,23 @@ fn tag(kind: Kind) -> u8
 fn record(report: Report) -> [u8; 11]
     ensures { λ r. ⌜ r ≡ page-record (report-of report) ⌝ }
 {
+    let (lower, higher) = (report.lower, report.higher);
     let n = report.time.numerator().to_be_bytes();
     let d = report.time.denominator().to_be_bytes();
     let length = 8u16.to_be_bytes();
-    [tag(report.kind), length[0], length[1], report.lower, report.higher, n[0], n[1], n[2], n[3], d[0], d[1]]
+    [
+        tag(report.kind),
+        length[0],
+        length[1],
+        lower,
+        higher,
+        n[0],
+        n[1],
+        n[2],
+        n[3],
+        d[0],
+        d[1],
+    ]
 }
 
 /// Copies a record into the page from `at` on, where it fits.
