@@ -1,0 +1,3 @@
+pub mod Keywords
+pub mod Shapes
+pub mod Parsing
