@@ -1,11 +1,12 @@
 -- The texts of answers.
-use mathlib.Core.Bool.{cond}
+use mathlib.Core.Bool.{Bool, cond}
 use mathlib.Core.List.{List, _++_}
 use Prim.Native.Nat.{ℕ}
 use lib.Chars.{codes}
 use lib.Dec.{eqb}
+use lib.IntN.{ℤ}
 use Rattle.std.specs.Joined.{joined}
-use Rattle.std.specs.Written.{decimal}
+use Rattle.std.specs.Written.{decimal, signed}
 use Rattle.rules.specs.Fractions.{Fraction}
 use Rattle.console_read.specs.declared.gate.Stop.{Stop}
 use Rattle.console_read.specs.declared.gate.Stop.the-variants.{NotOpen, AlreadyOpen, ClockIsQuiet, ClockIsDue}
@@ -30,3 +31,10 @@ line-text x = codes " " ++ decimal x
 
 abbrev pub lines-text : List ℕ → List ℕ
 lines-text ls = joined line-text ls
+
+abbrev pub yes-text : Bool → List ℕ
+yes-text b = cond b (codes "yes") (codes "no")
+
+-- a line A + V × t on an axis
+abbrev pub axis-text : ℤ → ℤ → List ℕ
+axis-text a v = signed a ++ (codes " " ++ (signed v ++ codes "; "))

@@ -7,7 +7,6 @@ ghost use Rattle.std.specs.Vec.{made};
 ghost use Rattle.std.specs.Written.{decimal};
 ghost use Rattle.times.specs.Of.{time-of};
 ghost use Rattle.console_write.specs.Texts.{fraction-text};
-
 use crate::put_time;
 use std::fmt;
 use times::Time;

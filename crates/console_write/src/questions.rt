@@ -4,7 +4,7 @@ ghost use mathlib.Core.List.{_++_};
 ghost use lib.Chars.{codes};
 ghost use Rattle.std.specs.Of.String.{string-bytes};
 ghost use Rattle.std.specs.Vec.{made};
-
+ghost use Rattle.console_write.specs.Texts.{axis-text};
 use crate::put_time;
 use std::fmt;
 use times::Moment;
@@ -27,7 +27,10 @@ pub fn listed(out: &mut String, entries: &[u16]) -> fmt::Result {
 fn standing(out: &mut String, number: u32, moment: Moment) -> fmt::Result {
     write!(out, "certificate: {number} at ")?;
     put_time(out, moment.time)?;
-    if moment.after { write!(out, " side 1\n") } else { write!(out, " side 0\n") }
+    if moment.after {
+        return write!(out, " side 1\n");
+    }
+    write!(out, " side 0\n")
 }
 
 /// `certificate: NUMBER at TIME side S`, or `certificate: NUMBER never`.
@@ -45,14 +48,27 @@ pub fn no_certificate(out: &mut String) -> fmt::Result
     write!(out, "certificate: none\n")
 }
 
+/// `A V; `.
+fn axis(out: &mut String, a: i32, v: i32) -> fmt::Result
+    ensures { λ r. ⌜ made r (λ _. string-bytes (now (out .exit)) ≡ string-bytes (now (out .entry)) ++ axis-text a v) ⌝ }
+{
+    write!(out, "{a} {v}; ")
+}
+
 /// `leg: x A V; y A V; z A V; break B`, with `break none` where there is none.
-pub fn leg(out: &mut String, x: (i32, i32), y: (i32, i32), z: (i32, i32), next: Option<u16>) -> fmt::Result {
-    let (a, v) = x;
-    write!(out, "leg: x {a} {v}; ")?;
-    let (a, v) = y;
-    write!(out, "y {a} {v}; ")?;
-    let (a, v) = z;
-    write!(out, "z {a} {v}; ")?;
+pub fn leg(
+    out: &mut String,
+    x: (i32, i32),
+    y: (i32, i32),
+    z: (i32, i32),
+    next: Option<u16>,
+) -> fmt::Result {
+    write!(out, "leg: x ")?;
+    axis(out, x.0, x.1)?;
+    write!(out, "y ")?;
+    axis(out, y.0, y.1)?;
+    write!(out, "z ")?;
+    axis(out, z.0, z.1)?;
     match next {
         Some(tick) => write!(out, "break {tick}\n"),
         None => write!(out, "break none\n"),

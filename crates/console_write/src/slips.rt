@@ -5,7 +5,6 @@ ghost use lib.Chars.{codes};
 ghost use Rattle.std.specs.Of.String.{string-bytes};
 ghost use Rattle.std.specs.Vec.{made};
 ghost use Rattle.console_write.specs.Texts.{lines-text};
-
 use crate::put_time;
 use pages::Kind;
 use std::fmt;
@@ -42,7 +41,13 @@ fn told(out: &mut String, news: Option<(Kind, u8, u8)>) -> fmt::Result {
 }
 
 /// `step: fired NUMBER at TIME; met A B; lines L ..`.
-pub fn fired(out: &mut String, number: u32, time: Time, news: Option<(Kind, u8, u8)>, slip: &[u32]) -> fmt::Result {
+pub fn fired(
+    out: &mut String,
+    number: u32,
+    time: Time,
+    news: Option<(Kind, u8, u8)>,
+    slip: &[u32],
+) -> fmt::Result {
     write!(out, "step: fired {number} at ")?;
     put_time(out, time)?;
     write!(out, "; ")?;

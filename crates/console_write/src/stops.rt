@@ -5,8 +5,7 @@ ghost use lib.Chars.{codes};
 ghost use Rattle.std.specs.Of.String.{string-bytes};
 ghost use Rattle.std.specs.Vec.{made};
 ghost use Rattle.std.specs.Written.{decimal};
-ghost use Rattle.console_write.specs.Texts.{stop-text};
-
+ghost use Rattle.console_write.specs.Texts.{stop-text, yes-text};
 use console_read::Stop;
 use std::fmt;
 
@@ -37,6 +36,11 @@ pub fn refused(out: &mut String, word: &str, number: u8) -> fmt::Result
 }
 
 /// `WORD: yes` or `WORD: no`.
-pub fn yes_no(out: &mut String, word: &str, yes: bool) -> fmt::Result {
-    if yes { said(out, word, "yes") } else { said(out, word, "no") }
+pub fn yes_no(out: &mut String, word: &str, yes: bool) -> fmt::Result
+    ensures { λ r. ⌜ made r (λ _. string-bytes (now (out .exit)) ≡ string-bytes (now (out .entry)) ++ (now (word .entry) ++ (codes ": " ++ (yes-text yes ++ codes "\n")))) ⌝ }
+{
+    if yes {
+        return said(out, word, "yes");
+    }
+    said(out, word, "no")
 }
