@@ -3,7 +3,15 @@ pub mod Behind
 pub mod Lists
 pub mod Settled
 pub mod Certificates
+pub mod Quick
+pub mod Scale
 pub mod Moments
 pub mod Soon
 pub mod Lately
 pub mod Flips
+pub mod Paths
+pub mod Near
+pub mod Points
+pub mod Turns
+pub mod Track
+pub mod Pair
