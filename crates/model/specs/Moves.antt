@@ -55,7 +55,7 @@ take-away line s m = record { hall = with-slot s 0 None (m .last) m; lines = lin
 
 -- the record of an entered craft; of any other it does not matter
 abbrev pub nobody : Craft
-nobody = record { box = record { half = λ _. 0 }; leg = λ _. record { base = pos 0; slope = pos 0 } }
+nobody = record { box = record { half = λ _. 1 }; leg = λ _. record { base = pos 0; slope = pos 0 } }
 
 abbrev pub craft-of : ℕ → Hall → Craft
 craft-of c m = the nobody (m .craft c)
