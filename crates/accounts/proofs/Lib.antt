@@ -1,0 +1,5 @@
+pub mod Puts
+pub mod Ledgers
+pub mod Slotted
+pub mod Wanted
+pub mod Kept
