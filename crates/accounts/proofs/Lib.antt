@@ -6,3 +6,5 @@ pub mod Kept
 pub mod Frames
 pub mod Counts
 pub mod Sound
+pub mod Accounts
+pub mod Ends
