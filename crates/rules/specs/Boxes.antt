@@ -9,7 +9,7 @@ use lib.Signed.{ltZ, leZ, _≤ℤ_}
 use Rattle.std.specs.declared.option.Option.{Option}
 use Rattle.std.specs.declared.option.Option.the-variants.{Some, None}
 use Rattle.rules.specs.Basics.{those}
-use Rattle.rules.specs.Fractions.{Fraction, Proper, Before, NotAfter, Throughout, tick, least}
+use Rattle.rules.specs.Fractions.{Fraction, Proper, Before, NotAfter, Throughout, tick, least, no-time}
 use Rattle.rules.specs.Stamps.{Stamp, at, just-after, is-earlier, earliest}
 use Rattle.rules.specs.Paths.{Axis, Line, Path, leg, value, on-every-axis}
 
@@ -36,12 +36,13 @@ pub record Ends : Type 0 where
 abbrev pub ends : Box → Axis → Line → Ends
 ends b a l = record {
   low = record { base = l .base -ℤ pos (down-reach b a); slope = l .slope };
-  high = record { base = l .base +ℤ pos (up-reach b a); slope = l .slope } }
+  high = record { base = l .base +ℤ pos (up-reach b a); slope = l .slope };
+}
 
 -- the greater value is behind; just after, of equal values the greater slope
 abbrev pub behind : Line → Line → Stamp → Bool
 behind u v m = ltZ (value v (m .time)) (value u (m .time))
-  || (m .after && not (ltZ (value u (m .time)) (value v (m .time))) && ltZ (v .slope) (u .slope))
+    || (m .after && not (ltZ (value u (m .time)) (value v (m .time))) && ltZ (v .slope) (u .slope))
 
 -- neither lower end is behind the other's upper end
 abbrev pub overlap : Ends → Ends → Stamp → Bool
@@ -49,7 +50,7 @@ overlap p q m = not (behind (p .low) (q .high) m) && not (behind (q .low) (p .hi
 
 -- n / s, where that is a time
 abbrev pub quotient : ℤ → ℤ → Option Fraction
-quotient n s = cond (ltb 0 (natAbs s) && leZ (pos 0) (n *ℤ s) && leb (natAbs n) (50000 * natAbs s)) (Some (least (natAbs n) (natAbs s))) None
+quotient n s = cond (leZ (pos 0) (n *ℤ s) && not (no-time (natAbs n) (natAbs s))) (Some (least (natAbs n) (natAbs s))) None
 
 -- the moments at which two ends that differ in slope have one value
 abbrev pub both-sides : Option Fraction → List Stamp
