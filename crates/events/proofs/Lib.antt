@@ -1,2 +1,4 @@
 pub mod Points
 pub mod Tales
+pub mod Pairs
+pub mod Legs
