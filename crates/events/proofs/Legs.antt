@@ -157,3 +157,13 @@ reads-proper p t l e r k x = go (first-after t (p .breaks)) (sym (r .end) ∙ x)
     go : (o : Option ℕ) → at-break o ≡ Some k → Proper (k .time)
     go None z = absurd (none-some k z)
     go (Some b) z = subst (λ (k : Stamp). Proper (k .time)) (sym (some-one (at (tick b)) k z)) (omega arith)
+
+-- a craft whose leg is read now
+pub flying-now : (p : Path) (l : Axis → Line) (n : Point) (e : Option Stamp) → Reads p (n .stamp .time) l e → Flying p l (n .stamp) e
+flying-now p l n e r = record {
+    read = n .stamp .time; proper = n .proper; since = omega arith; reads = r;
+    ahead = λ k x. not-earlier-is k (n .stamp) (λ h. late k (reads-later p (n .stamp .time) l e r k x) h) }
+  where
+    late : (k : Stamp) → Before (n .stamp .time) (k .time) → Earlier k (n .stamp) → ⊥
+    late k b (inl x) = omega arith
+    late k b (inr x) = omega (arith, x .0)

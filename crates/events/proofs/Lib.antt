@@ -2,3 +2,4 @@ pub mod Points
 pub mod Tales
 pub mod Pairs
 pub mod Legs
+pub mod Machine
