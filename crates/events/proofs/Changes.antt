@@ -1,19 +1,18 @@
 -- At a quiet clock the invariant stands again after entries, leavings and filings.
-use mathlib.Core.Path.{_≡_, refl, sym, ap, _∙_, subst}
+use mathlib.Core.Path.{_≡_, sym, ap, _∙_, subst}
 use mathlib.Core.Logic.{_⊎_, inl, inr}
-use mathlib.Core.Bool.{Bool, true, false}
+use mathlib.Core.Bool.{true}
 use Prim.Native.Nat.{ℕ}
 use Rattle.std.specs.Options.{isSome}
-use Rattle.std.specs.declared.option.Option.{Option}
-use Rattle.std.specs.declared.option.Option.the-variants.{Some, None}
+use Rattle.std.specs.declared.option.Option.the-variants.{Some}
 use Rattle.rules.specs.Basics.{the}
 use Rattle.rules.specs.Fractions.{Fraction, Proper}
 use Rattle.rules.specs.Stamps.{Stamp, at, is-earlier}
 use Rattle.rules.specs.Paths.{Axis, Path}
-use Rattle.rules.specs.Boxes.{Box}
+use Rattle.rules.proofs.Stamped.{false-true}
 use Rattle.geometry_laws.proofs.Lists.{earlier-is}
 use Rattle.events.specs.Machine.{Sky, flies, box-of, Pair, In, Core, ends-in, Certified, Reads, Flying, Rested}
-use Rattle.events.specs.Changes.{Stays, Remains, Anew, Changed, Changes-rest}
+use Rattle.events.specs.Changes.{Stays, Remains, Anew, Changes-rest, Empty-rests}
 use Rattle.events.proofs.Points.{on}
 use Rattle.events.proofs.Legs.{flying-same, flying-now, reads-later}
 use Rattle.events.proofs.Machine.{carried, fails-later}
@@ -54,3 +53,11 @@ pub changes-rest : Changes-rest
 changes-rest y y' t pt s s' rest ch = record {
     sound = record { legs = λ d f. legs y y' t pt s s' rest d f (ch .craft d f); bits = λ i q a. bits y y' t pt s s' rest i q a (ch .pairs i q a) };
     quiet = record { legs = λ d f k e. quiet-leg y y' t pt s s' rest d f (ch .craft d f) k e; bits = λ i q a k e. quiet-bit y y' t pt s s' rest i q a (ch .pairs i q a) k e } }
+
+pub empty-rests : Empty-rests
+empty-rests y n t s = record {
+    sound = record { legs = λ c f. absurd (nobody c f); bits = λ i p a. absurd (nobody (i .lower) (p .first)) };
+    quiet = record { bits = λ i p a k e. absurd (nobody (i .lower) (p .first)); legs = λ c f k e. absurd (nobody c f) } }
+  where
+    nobody : (c : ℕ) → flies y c ≡ true → ⊥
+    nobody c f = false-true (sym (ap isSome (n c)) ∙ f)

@@ -3,7 +3,7 @@ use mathlib.Core.Path.{_≡_, refl, ap, sym, _∙_, subst}
 use mathlib.Core.Bool.{Bool, true, false, cond}
 use mathlib.Core.List.{List, [], _∷_, List·Memᴰ·not-nil, List·Memᴰ·cases-cons}
 use mathlib.Core.Logic.{_⊎_, inl, inr, ⊎-elim}
-use Prim.Native.Nat.{ℕ, zero, suc, _+_, _*_, _≤_, _<_, min}
+use Prim.Native.Nat.{ℕ, suc, _*_, _≤_, _<_, min}
 use native.Mathlib.Omega.{arith}
 use native.Mathlib.Decide.{decLe}
 use native.Mathlib.Nat.{mul-le-mul-right}
@@ -11,17 +11,17 @@ use Rattle.std.specs.declared.option.Option.{Option}
 use Rattle.std.specs.declared.option.Option.the-variants.{Some, None}
 use Rattle.rules.specs.Basics.{_∈_}
 use Rattle.rules.specs.Fractions.{Fraction, Proper, Before, NotAfter, SameTime, tick, whole, is-before}
-use Rattle.rules.specs.Stamps.{Stamp, Earlier, NotEarlier, at, side, is-earlier}
-use Rattle.rules.specs.Paths.{Axis, Line, Path, Kept, leg, line-at, value, first-after, min-with}
+use Rattle.rules.specs.Stamps.{Stamp, Earlier, NotEarlier, at, side}
+use Rattle.rules.specs.Paths.{Axis, Line, Path, Kept, leg, first-after, min-with}
 use Rattle.rules.proofs.Order.{not-after-trans}
 use Rattle.rules.proofs.Stamped.{false-true, not-earlier-out}
 use Rattle.rules.proofs.Ordering.{tests-right}
-use Rattle.geometry_laws.proofs.Lists.{not-earlier-is, not-is-earlier}
+use Rattle.geometry_laws.proofs.Lists.{not-earlier-is}
 use Rattle.geometry_laws.proofs.Paths.{Straight, same-leg, place-straight, whole-mono, start-ok, end-ok}
 use Rattle.geometry_laws.proofs.Near.{Alike, alike-self}
 use Rattle.model.specs.Moves.{at-break}
 use Rattle.events.specs.Machine.{Reads, Flying}
-use Rattle.events.proofs.Points.{Point, Upto, Sooner}
+use Rattle.events.proofs.Points.{Point, Upto}
 
 -- what an option is not, and what it holds
 abbrev Holds : {A : Type 0} → (A → Type 0) → Option A → Type 0

@@ -1,29 +1,28 @@
 -- The invariant of the machine is kept, its bits are right on the paths, and a run tells a tale.
-use mathlib.Core.Path.{_≡_, refl, sym, ap, _∙_, subst}
-use mathlib.Core.List.{List, [], _∷_, _++_}
-use mathlib.Core.Logic.{_⊎_, inl, inr}
+use mathlib.Core.Path.{_≡_, refl, sym, _∙_, subst}
+use mathlib.Core.List.{List, _++_}
+use mathlib.Core.Logic.{inl, inr}
 use mathlib.Core.Bool.{Bool, true, false, not}
-use Prim.Native.Nat.{ℕ, _*_, _≤_, _<_}
-use native.Mathlib.Omega.{arith}
+use Prim.Native.Nat.{ℕ}
 use native.Mathlib.Decide.{ℕ-discrete}
 use Rattle.std.specs.declared.option.Option.{Option}
 use Rattle.std.specs.declared.option.Option.the-variants.{Some, None}
-use Rattle.rules.specs.Fractions.{Fraction, Proper, Before, NotAfter, tick}
+use Rattle.rules.specs.Fractions.{Fraction, Proper, NotAfter, tick}
 use Rattle.rules.specs.Stamps.{Stamp, Earlier, NotEarlier, at, is-earlier}
-use Rattle.rules.specs.Paths.{Axis, Line, Path, leg}
+use Rattle.rules.specs.Paths.{Axis, Line, leg}
 use Rattle.rules.specs.Boxes.{Box, Ends, ends, overlap, wrong, Fails}
 use Rattle.rules.specs.Pages.{Report}
 use Rattle.rules.proofs.Order.{not-after-trans}
 use Rattle.rules.proofs.Stamped.{false-true, asym, not-earlier-trans}
 use Rattle.geometry_laws.proofs.Lists.{earlier-is, is-earlier-so, not-earlier-is, not-is-earlier}
 use Rattle.geometry_laws.proofs.Moments.{overlap-same}
-use Rattle.geometry_laws.proofs.Near.{Alike, overlap-alike}
-use Rattle.events.specs.Machine.{Sky, flies, box-of, Pair, In, Core, ends-in, Certified, Reads, Flying, Sound, None-before, Quiet, Flips, Rereads, telling, Fires, bit-fires, leg-fires, Runs, stop, step, Rested}
+use Rattle.geometry_laws.proofs.Near.{overlap-alike}
+use Rattle.events.specs.Machine.{Sky, flies, box-of, Pair, In, Core, ends-in, Certified, Flying, Sound, None-before, Quiet, Flips, Rereads, Fires, bit-fires, leg-fires, Runs, stop, step}
 use Rattle.events.specs.Reports.{Lawful}
-use Rattle.events.proofs.Points.{Point, Sooner, Upto, Same, During, on, sooner-upto, upto-self, upto-trans, upto-sooner, sooner-upto-trans, same-time}
+use Rattle.events.proofs.Points.{Point, Upto, During, on, sooner-upto, upto-trans, upto-sooner, sooner-upto-trans, same-time}
 use Rattle.events.proofs.Tales.{every, pair-dec, axis-dec, Right, Halfway, Tale, tale-end, tale-goes, half-goes, tale-flip, half-flip, tale-like}
 use Rattle.events.proofs.Pairs.{so, Turns, sky-kinetic}
-use Rattle.events.proofs.Legs.{flying-alike, flying-on, flying-same, flying-now, reads-later, reads-proper, upto-time, some-one}
+use Rattle.events.proofs.Legs.{flying-alike, flying-on, flying-same, flying-now, reads-proper, upto-time}
 
 -- ---- certificates
 right-is : (bit x : Bool) → wrong bit x ≡ false → bit ≡ x

@@ -1,11 +1,9 @@
 -- Pairs of boxes on their paths are kinetic: meetings at side 0 and partings at side 1 are the turns of their overlap.
-use mathlib.Core.Path.{_≡_, refl, sym, ap, _∙_, subst}
+use mathlib.Core.Path.{_≡_, refl, sym, ap, _∙_}
 use mathlib.Core.Logic.{_⊎_, inl, inr}
 use mathlib.Core.Bool.{Bool, true, false, not}
-use Prim.Native.Nat.{ℕ, _*_, _≤_, _<_}
-use native.Mathlib.Omega.{arith}
 use Rattle.rules.specs.Fractions.{Fraction, Proper, Before}
-use Rattle.rules.specs.Stamps.{Stamp, at, just-after}
+use Rattle.rules.specs.Stamps.{at, just-after}
 use Rattle.rules.specs.Paths.{Axis, Path, on-every-axis}
 use Rattle.rules.specs.Boxes.{Box, Touch, Meets, Parts}
 use Rattle.rules.proofs.Stamped.{false-true}
@@ -16,7 +14,7 @@ use Rattle.geometry_laws.proofs.Flips.{between, after-zero}
 use Rattle.geometry_laws.proofs.Near.{one-of, near-dec, near-same, near-late}
 use Rattle.geometry_laws.proofs.Turns.{touch-near, near-touch, parting-told, parting-only, recently, recently-before, recently-proper, apart-lead}
 use Rattle.events.specs.Machine.{Sky, Pair, box-of}
-use Rattle.events.proofs.Points.{Point, Sooner, Upto, Same, During, on, past, upto-on, on-past, same-time}
+use Rattle.events.proofs.Points.{Point, Sooner, Upto, During, on, past, upto-on, on-past, same-time}
 use Rattle.events.proofs.Tales.{Kinetic, every, every-set}
 
 abbrev pub turning : Bool → (Fraction → Type 0) → Fraction → Type 0

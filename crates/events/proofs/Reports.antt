@@ -1,9 +1,9 @@
 -- The reports between two quiet clocks, and the bits at one.
 use mathlib.Core.Path.{_≡_, refl, sym, ap, _∙_, subst}
 use mathlib.Core.List.{List}
-use mathlib.Core.Logic.{_⊎_, inl, inr}
-use mathlib.Core.Bool.{Bool, true, false, not}
-use Prim.Native.Nat.{ℕ, _*_, _≤_, _<_}
+use mathlib.Core.Logic.{inl, inr}
+use mathlib.Core.Bool.{Bool, true, false}
+use Prim.Native.Nat.{ℕ, _*_, _<_}
 use native.Mathlib.Omega.{arith}
 use native.Mathlib.Decide.{decLe}
 use Rattle.std.specs.Options.{isSome}
@@ -11,16 +11,16 @@ use Rattle.std.specs.declared.option.Option.{Option}
 use Rattle.std.specs.declared.option.Option.the-variants.{Some, None}
 use Rattle.rules.specs.Basics.{_∈_, the}
 use Rattle.rules.specs.Fractions.{Fraction, Proper, Before, NotAfter, SameTime, tick}
-use Rattle.rules.specs.Stamps.{Stamp, Earlier, NotEarlier, at, just-after}
+use Rattle.rules.specs.Stamps.{Earlier, NotEarlier, at, just-after}
 use Rattle.rules.specs.Paths.{Axis, on-every-axis}
 use Rattle.rules.specs.Boxes.{Box, Touch, Meets, Parts}
 use Rattle.rules.specs.Pages.{News, met, parted, Report}
 use Rattle.rules.proofs.Order.{not-after-trans}
 use Rattle.rules.proofs.Stamped.{false-true}
-use Rattle.events.specs.Machine.{Sky, flies, box-of, Pair, In, Core, Runs, Quiet, Rested}
-use Rattle.events.specs.Reports.{OfPair, Happens, Reported, Reports-hold, Bits-tell}
+use Rattle.events.specs.Machine.{Sky, box-of, Pair, In}
+use Rattle.events.specs.Reports.{OfPair, Happens, Reports-hold, Bits-tell}
 use Rattle.events.proofs.Points.{Point, Sooner, Upto, on, past, upto-self}
-use Rattle.events.proofs.Tales.{not-itself, news-at, report, Right, right-all, Halfway, Owed, Entry, Told, Tale}
+use Rattle.events.proofs.Tales.{not-itself, news-at, Right, right-all, Halfway, Owed, Tale}
 use Rattle.events.proofs.Pairs.{turning, touch-all, all-touch, so, Touches, Turns}
 use Rattle.events.proofs.Machine.{right-quiet, tale-runs, sound-runs}
 

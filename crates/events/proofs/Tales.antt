@@ -3,12 +3,12 @@ use mathlib.Core.Path.{_≡_, refl, sym, ap, _∙_, subst}
 use mathlib.Core.List.{List, [], _∷_, _++_, List·Memᴰ·head, List·Memᴰ·tail, List·Memᴰ·not-nil, List·Memᴰ·cases-cons}
 use mathlib.Core.Logic.{_⊎_, inl, inr}
 use mathlib.Core.Bool.{Bool, true, false, not, _&&_}
-use Prim.Native.Nat.{ℕ, _≤_, _<_}
+use Prim.Native.Nat.{ℕ, _≤_}
 use native.Mathlib.Omega.{arith}
 use native.Mathlib.Decide.{ℕ-discrete}
 use Rattle.rules.specs.Basics.{_∈_, InTurn}
-use Rattle.rules.specs.Fractions.{Fraction, Proper, Before, NotAfter, SameTime}
-use Rattle.rules.specs.Stamps.{Stamp, Earlier, NotEarlier, side}
+use Rattle.rules.specs.Fractions.{Before, NotAfter, SameTime}
+use Rattle.rules.specs.Stamps.{Stamp, Earlier, side}
 use Rattle.rules.specs.Paths.{Axis, X, Y, Z, on-every-axis}
 use Rattle.rules.specs.Pages.{News, met, parted, Report}
 use Rattle.rules.proofs.Stamped.{false-true, not-earlier-out}
