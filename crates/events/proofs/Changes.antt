@@ -31,14 +31,14 @@ module _ (y y' : Sky) (t : Fraction) (pt : Proper t) (s s' : Core) (rest : Reste
   legs : (d : ℕ) → flies y' d ≡ true → (Stays y y' s s' d) ⊎ (Reads (y' .path d) t (s' .leg d) (s' .turn d)) → Flying (y' .path d) (s' .leg d) (at t) (s' .turn d)
   legs d f (inl w) =
       subst (λ (p : Path). Flying p (s' .leg d) (at t) (s' .turn d)) (sym (w .path))
-          (flying-same (y .path d) (s .leg d) (s' .leg d) (at t) (s .turn d) (s' .turn d) (w .leg) (w .turn) (rest .sound .legs d (flew d w f)))
+      (flying-same (y .path d) (s .leg d) (s' .leg d) (at t) (s .turn d) (s' .turn d) (w .leg) (w .turn) (rest .sound .legs d (flew d w f)))
   legs d f (inr r) = flying-now (y' .path d) (s' .leg d) (on t pt) (s' .turn d) r
 
   bits : (i : Pair) → In y' i → (a : Axis) → (Remains y y' s s' i a) ⊎ (Anew y' t s' i a) → Certified y' s' (at t) i a
   bits i q a (inr w) = w .granted
   bits i q a (inl w) =
       carried (s .bit i a) (s' .bit i a) (box-of y (i .lower)) (box-of y' (i .lower)) (box-of y (i .higher)) (box-of y' (i .higher)) a (s .leg (i .lower) a) (s' .leg (i .lower) a) (s .leg (i .higher) a) (s' .leg (i .higher) a) (at t) (s .fails i a) (s' .fails i a)
-          (w .bit) (same-box (i .lower) (w .first)) (same-box (i .higher) (w .second)) (w .first .leg a) (w .second .leg a) (w .fails) (rest .sound .bits i (was-in i a w q) a)
+      (w .bit) (same-box (i .lower) (w .first)) (same-box (i .higher) (w .second)) (w .first .leg a) (w .second .leg a) (w .fails) (rest .sound .bits i (was-in i a w q) a)
 
   quiet-leg : (d : ℕ) → flies y' d ≡ true → (Stays y y' s s' d) ⊎ (Reads (y' .path d) t (s' .leg d) (s' .turn d)) → (k : Stamp) → s' .turn d ≡ Some k → is-earlier (at t) k ≡ true
   quiet-leg d f (inl w) k e = rest .quiet .legs d (flew d w f) k (sym (w .turn) ∙ e)
@@ -51,13 +51,15 @@ module _ (y y' : Sky) (t : Fraction) (pt : Proper t) (s s' : Core) (rest : Reste
 
 pub changes-rest : Changes-rest
 changes-rest y y' t pt s s' rest ch = record {
-    sound = record { legs = λ d f. legs y y' t pt s s' rest d f (ch .craft d f); bits = λ i q a. bits y y' t pt s s' rest i q a (ch .pairs i q a) };
-    quiet = record { legs = λ d f k e. quiet-leg y y' t pt s s' rest d f (ch .craft d f) k e; bits = λ i q a k e. quiet-bit y y' t pt s s' rest i q a (ch .pairs i q a) k e } }
+  sound = record { legs = λ d f. legs y y' t pt s s' rest d f (ch .craft d f); bits = λ i q a. bits y y' t pt s s' rest i q a (ch .pairs i q a) };
+  quiet = record { legs = λ d f k e. quiet-leg y y' t pt s s' rest d f (ch .craft d f) k e; bits = λ i q a k e. quiet-bit y y' t pt s s' rest i q a (ch .pairs i q a) k e };
+}
 
 pub empty-rests : Empty-rests
 empty-rests y n t s = record {
-    sound = record { legs = λ c f. absurd (nobody c f); bits = λ i p a. absurd (nobody (i .lower) (p .first)) };
-    quiet = record { bits = λ i p a k e. absurd (nobody (i .lower) (p .first)); legs = λ c f k e. absurd (nobody c f) } }
+  sound = record { legs = λ c f. absurd (nobody c f); bits = λ i p a. absurd (nobody (i .lower) (p .first)) };
+  quiet = record { bits = λ i p a k e. absurd (nobody (i .lower) (p .first)); legs = λ c f k e. absurd (nobody c f) };
+}
   where
     nobody : (c : ℕ) → flies y c ≡ true → ⊥
     nobody c f = false-true (sym (ap isSome (n c)) ∙ f)

@@ -93,36 +93,43 @@ module _ (y : Sky) (s t : Fraction) (ps : Proper s) (pt : Proper t) (b : Pair �
   all-told : (n : News) (u : Fraction) → Proper u → Happens y s t n u → (r : Report) × (r ∈ rs) × (r .news ≡ n) × SameTime (r .time) u
   all-told (met c d) u pu (h, v, o, (k, l, e, f, m)) =
       tale .all-told (record { lower = c; higher = d }) (in-pair y c d k l o e f) (on u pu)
-          (inl (inl h, subst (λ (touch : Fraction → Type 0). Meets touch u) (same-touch y c d k l e f) m)) (met-upto u t v)
+      (inl (inl h, subst (λ (touch : Fraction → Type 0). Meets touch u) (same-touch y c d k l e f) m)) (met-upto u t v)
   all-told (parted c d) u pu (h, v, o, (k, l, e, f, m)) =
       tale .all-told (record { lower = c; higher = d }) (in-pair y c d k l o e f) (past u pu)
-          (inl (parted-sooner s u h, subst (λ (touch : Fraction → Type 0). Parts touch u) (same-touch y c d k l e f) m)) (parted-upto u t v)
+      (inl (parted-sooner s u h, subst (λ (touch : Fraction → Type 0). Parts touch u) (same-touch y c d k l e f) m)) (parted-upto u t v)
 
 pub reports-hold : Reports-hold
-reports-hold w y law s t ps pt st it c d rs rest runs quiet =
-    (record { true-told = true-told y s t ps pt (c .bit) rs tale owed; all-told = all-told y s t ps pt (c .bit) rs tale owed; ordered = tale .ordered },
-     record { sound = sound-runs w y law t pt it d quiet (on s ps) c rs (rest .sound) upto runs; quiet = quiet })
+reports-hold w y law s t ps pt st it c d rs rest runs quiet = (
+  record { true-told = true-told y s t ps pt (c .bit) rs tale owed; all-told = all-told y s t ps pt (c .bit) rs tale owed; ordered = tale .ordered },
+  record { sound = sound-runs w y law t pt it d quiet (on s ps) c rs (rest .sound) upto runs; quiet = quiet },
+)
   where
     upto : Upto (on s ps) (on t pt)
     upto = met-upto s t st
+
     right : (k : Point) → Upto (on s ps) k → Upto k (on s ps) → Right (In y) (so y) (Turns y) (c .bit) k
     right k u v = right-quiet w y law (on s ps) c (rest .sound) s ps (not-after-trans s t (tick 50000) pt st it) (rest .quiet) k u v
+
     half : Halfway (In y) (so y) (Turns y) (c .bit) (on s ps)
     half i p a e = sym (right (on s ps) (upto-self (on s ps)) (upto-self (on s ps)) i p a) ∙ e
+
     tale : Tale (In y) (so y) (Turns y) (on t pt) (on s ps) (c .bit) rs
     tale = tale-runs w y law t pt it d quiet (on s ps) c rs (rest .sound) upto half runs
+
     -- nothing is owed at s itself
     owed : (i : Pair) → In y i → (k : Point) → Owed (In y) (so y) (Turns y) (c .bit) i (on s ps) k → Sooner (on s ps) k × Turns y i k
     owed i p k (inl x) = x
     owed i p k (inr x) = absurd (not-itself (on-every-axis (c .bit i)) (right-all (In y) (so y) (Turns y) (c .bit) k i p (right k (x .0 .0) (x .0 .1)) ∙ x .1))
 
 pub bits-tell : Bits-tell
-bits-tell w y law t pt it s rest c d k l o e f =
-    ((λ x. subst (λ (touch : Fraction → Type 0). touch t) (sym (same-touch y c d k l e f)) (all-touch (y .path c) (box-of y c) (y .path d) (box-of y d) t pt (sym same ∙ x))),
-     (λ x. same ∙ touch-all (y .path c) (box-of y c) (y .path d) (box-of y d) t pt (subst (λ (touch : Fraction → Type 0). touch t) (same-touch y c d k l e f) x)))
+bits-tell w y law t pt it s rest c d k l o e f = (
+  (λ x. subst (λ (touch : Fraction → Type 0). touch t) (sym (same-touch y c d k l e f)) (all-touch (y .path c) (box-of y c) (y .path d) (box-of y d) t pt (sym same ∙ x))),
+  (λ x. same ∙ touch-all (y .path c) (box-of y c) (y .path d) (box-of y d) t pt (subst (λ (touch : Fraction → Type 0). touch t) (same-touch y c d k l e f) x)),
+)
   where
     i : Pair
     i = record { lower = c; higher = d }
+
     same : on-every-axis (s .bit i) ≡ on-every-axis (λ a. so y i a (on t pt))
     same = right-all (In y) (so y) (Turns y) (s .bit) (on t pt) i (in-pair y c d k l o e f)
         (right-quiet w y law (on t pt) s (rest .sound) t pt it (rest .quiet) (on t pt) (upto-self (on t pt)) (upto-self (on t pt)))
