@@ -42,7 +42,7 @@ one-end (z ∷ zs) h x y p q e a b = by (λ g k. one-end zs (h .1) x y g k e a b
 -- WHAT THE CERTIFICATE QUESTION TELLS
 
 -- what it tells is what the slot has, of a slot in range
-asked : (z : State) (s : ℕ) (o : Option Certificate) → perform (asking s) z .answer .result ≡ accepted (certificate o) → certificate-in s (z .hall) ≡ o
+pub asked : (z : State) (s : ℕ) (o : Option Certificate) → perform (asking s) z .answer .result ≡ accepted (certificate o) → certificate-in s (z .hall) ≡ o
 asked z s o e = by (refusal (asking s) z) e
   where
     by : (r : Option ℕ) → unless r (asking s) z .answer .result ≡ accepted (certificate o) → certificate-in s (z .hall) ≡ o
@@ -61,7 +61,7 @@ pub record Has (m : Hall) (s n : ℕ) (f : Option Stamp) : Type 0 where
 abbrev made : ℕ → Option Stamp → Certificate
 made n f = record { number = n; fails = f }
 
-has : (m : Hall) (s n : ℕ) (f : Option Stamp) → certificate-in s m ≡ Some (record { number = n; fails = f }) → Has m s n f
+pub has : (m : Hall) (s n : ℕ) (f : Option Stamp) → certificate-in s m ≡ Some (record { number = n; fails = f }) → Has m s n f
 has m s n f e = by (eqb (m .number s) 0) refl e
   where
     by : (b : Bool) → eqb (m .number s) 0 ≡ b → cond b None (Some (made (m .number s) (m .queue s))) ≡ Some (made n f) → Has m s n f

@@ -25,6 +25,7 @@ use Rattle.model.specs.Runs.{run-in, run-on, ending}
 use Rattle.model.specs.Performing.{make, unless, stepping-to, carried-out, perform}
 use Rattle.model.specs.Histories.{events, after, change-of, if-accepted, changes, book-changes, book-now, boxes-with, boxes-from, boxes-now, clock-given, clock-from, clock-now}
 use Rattle.model.specs.Statement.{story}
+use Rattle.accounts.specs.Laws.{box-in, boxes, Histories-agree}
 use Rattle.accounts.proofs.Puts.{put-here, put-other, same-or-not}
 use Rattle.accounts.proofs.Frames.{enter-craft, leave-craft, fire-leg-craft, Some-entered, followers-entered}
 use Rattle.accounts.proofs.Counts.{Some-outside, outside-next, followers-outside}
@@ -71,13 +72,6 @@ change-book x k m =
   ∙ ap (changed x) (each-keeps book-in leave leave-book ds m)
 
 -- THE BOXES
-
-abbrev pub box-in : Option Craft → Option Box
-box-in None = None
-box-in (Some r) = Some (r .box)
-
-abbrev pub boxes : Hall → ℕ → Option Box
-boxes m c = box-in (m .craft c)
 
 box-put : (f : ℕ → Option Craft) (c : ℕ) (o : Option Craft) (d : ℕ) → box-in (put f c o d) ≡ put (λ j. box-in (f j)) c (box-in o) d
 box-put f c o d = by (eqb d c)
@@ -328,3 +322,6 @@ box-in-hall m c k e = by (m .craft c) e
     by : (o : Option Craft) → box-in o ≡ Some k → isSome o ≡ true
     by None e = let z : _≡_ {A = ℕ} 0 1 = cc in absurd (omega arith)
     by (Some r) e = refl
+
+pub histories-agree : Histories-agree
+histories-agree b calls = record { clock = clock-is b calls; book = book-is b calls; boxes = boxes-are b calls }
