@@ -44,9 +44,9 @@ module _ (b : Book) (law : Lawful b) (calls : List Call) (rest : Rests b calls) 
 
   at-rest : (t : Fraction) → clock-now (story b calls) ≡ quiet t → AtRest (sky-of (after calls (opened b) .hall)) t (core-of (after calls (opened b) .hall))
   at-rest t ck =
-    let e = sym (clock-is b calls) ∙ ck in
-    let p = rest .time t e in
-    certificates-rest (b .scale) (sky-of (after calls (opened b) .hall)) kept t (p .0) (p .1) (core-of (after calls (opened b) .hall)) (rest .rested t e)
+      let e = sym (clock-is b calls) ∙ ck in
+      let p = rest .time t e in
+      certificates-rest (b .scale) (sky-of (after calls (opened b) .hall)) kept t (p .0) (p .1) (core-of (after calls (opened b) .hall)) (rest .rested t e)
 
   box-now : (c : ℕ) (k : Box) → boxes-now (changes (story b calls)) c ≡ Some k → boxes (after calls (opened b) .hall) c ≡ Some k
   box-now c k e = ap (λ (g : ℕ → Option Box). g c) (sym (boxes-are b calls)) ∙ e
@@ -56,40 +56,40 @@ module _ (b : Book) (law : Lawful b) (calls : List Call) (rest : Rests b calls) 
   held s n f e = has (after calls (opened b) .hall) s n f (asked (after calls (opened b)) s (Some (record { number = n; fails = f })) e)
 
   pair-told : (t : Fraction) → clock-now (story b calls) ≡ quiet t → (a : Axis) (c d n : ℕ) (f : Option Stamp) → c < d → Tells b calls (slot a c d) (Some (record { number = n; fails = f })) →
-    (k l : Box) → boxes-now (changes (story b calls)) c ≡ Some k → boxes-now (changes (story b calls)) d ≡ Some l →
-    let p = ends k a (leg (path (book-now b (changes (story b calls))) c) t a) in let q = ends l a (leg (path (book-now b (changes (story b calls))) d) t a) in
-    Fails (overlap p q (at t)) p q (at t) f
+      (k l : Box) → boxes-now (changes (story b calls)) c ≡ Some k → boxes-now (changes (story b calls)) d ≡ Some l →
+      let p = ends k a (leg (path (book-now b (changes (story b calls))) c) t a) in let q = ends l a (leg (path (book-now b (changes (story b calls))) d) t a) in
+      Fails (overlap p q (at t)) p q (at t) f
   pair-told t ck a c d n f lt e k l ek el =
-    let bc = some-box (boxes (after calls (opened b) .hall) c) k (box-now c k ek) in
-    let bd = some-box (boxes (after calls (opened b) .hall) d) l (box-now d l el) in
-    let r = at-rest t ck .pairs (record { lower = c; higher = d }) (record { first = bc .0; second = bd .0; order = lt }) a in
-    subst (λ (x : Book). let p = ends k a (leg (path x c) t a) in let q = ends l a (leg (path x d) t a) in Fails (overlap p q (at t)) p q (at t) f) (sym (book-is b calls))
+      let bc = some-box (boxes (after calls (opened b) .hall) c) k (box-now c k ek) in
+      let bd = some-box (boxes (after calls (opened b) .hall) d) l (box-now d l el) in
+      let r = at-rest t ck .pairs (record { lower = c; higher = d }) (record { first = bc .0; second = bd .0; order = lt }) a in
+      subst (λ (x : Book). let p = ends k a (leg (path x c) t a) in let q = ends l a (leg (path x d) t a) in Fails (overlap p q (at t)) p q (at t) f) (sym (book-is b calls))
       (of-boxes (after calls (opened b) .hall .book) _ k _ l (bc .1) (bd .1) _ f (held (slot a c d) n f e .fails) r)
     where
       of-boxes : (x : Book) (u u' v v' : Box) → u ≡ u' → v ≡ v' → (g g' : Option Stamp) → g ≡ g' →
-        (let p = ends u a (leg (path x c) t a) in let q = ends v a (leg (path x d) t a) in Fails (overlap p q (at t)) p q (at t) g) →
-        let p = ends u' a (leg (path x c) t a) in let q = ends v' a (leg (path x d) t a) in Fails (overlap p q (at t)) p q (at t) g'
+          (let p = ends u a (leg (path x c) t a) in let q = ends v a (leg (path x d) t a) in Fails (overlap p q (at t)) p q (at t) g) →
+          let p = ends u' a (leg (path x c) t a) in let q = ends v' a (leg (path x d) t a) in Fails (overlap p q (at t)) p q (at t) g'
       of-boxes x u u' v v' e1 e2 g g' e3 h =
-        subst (λ (o : Option Stamp). let p = ends u' a (leg (path x c) t a) in let q = ends v' a (leg (path x d) t a) in Fails (overlap p q (at t)) p q (at t) o) e3
+          subst (λ (o : Option Stamp). let p = ends u' a (leg (path x c) t a) in let q = ends v' a (leg (path x d) t a) in Fails (overlap p q (at t)) p q (at t) o) e3
           (subst (λ (w : Box). let p = ends u' a (leg (path x c) t a) in let q = ends w a (leg (path x d) t a) in Fails (overlap p q (at t)) p q (at t) g) e2
-            (subst (λ (w : Box). let p = ends w a (leg (path x c) t a) in let q = ends v a (leg (path x d) t a) in Fails (overlap p q (at t)) p q (at t) g) e1 h))
+          (subst (λ (w : Box). let p = ends w a (leg (path x c) t a) in let q = ends v a (leg (path x d) t a) in Fails (overlap p q (at t)) p q (at t) g) e1 h))
 
   -- the craft of a leg slot that tells a number is entered
   told-in : (c n : ℕ) (f : Option Stamp) → Tells b calls (leg-slot c) (Some (record { number = n; fails = f })) → in-hall (after calls (opened b) .hall) c ≡ true
   told-in c n f e =
-    let h = held (leg-slot c) n f e in
-    let s = story-stands calls (opened b) [] (opened-stands b) in
-    sym (leg-wanted (in-hall (after calls (opened b) .hall)) c) ∙ sym (s .sound .good .taken (leg-slot c)) ∙ lt-ltb 0 (after calls (opened b) .hall .number (leg-slot c)) (some _ n (h .number) (h .some))
+      let h = held (leg-slot c) n f e in
+      let s = story-stands calls (opened b) [] (opened-stands b) in
+      sym (leg-wanted (in-hall (after calls (opened b) .hall)) c) ∙ sym (s .sound .good .taken (leg-slot c)) ∙ lt-ltb 0 (after calls (opened b) .hall .number (leg-slot c)) (some _ n (h .number) (h .some))
     where
       some : (x y : ℕ) → x ≡ y → 1 ≤ y → 0 < x
       some x y p q = omega arith
 
   leg-told : (t : Fraction) → clock-now (story b calls) ≡ quiet t → (c n : ℕ) (f : Option Stamp) → Tells b calls (leg-slot c) (Some (record { number = n; fails = f })) →
-    f ≡ at-break (break-after (book-now b (changes (story b calls))) c t)
+      f ≡ at-break (break-after (book-now b (changes (story b calls))) c t)
   leg-told t ck c n f e =
-    sym (held (leg-slot c) n f e .fails)
-    ∙ at-rest t ck .legs c (in-box (after calls (opened b) .hall .craft c) (told-in c n f e))
-    ∙ ap (λ (x : Book). at-break (break-after x c t)) (sym (book-is b calls))
+      sym (held (leg-slot c) n f e .fails)
+      ∙ at-rest t ck .legs c (in-box (after calls (opened b) .hall .craft c) (told-in c n f e))
+      ∙ ap (λ (x : Book). at-break (break-after x c t)) (sym (book-is b calls))
 
 pub certificates-from-rest : Certificates-from-rest
 certificates-from-rest b law calls rest = record { pairs = pair-told b law calls rest; legs = leg-told b law calls rest }
