@@ -1,0 +1,11 @@
+pub mod Puts
+pub mod Ledgers
+pub mod Slotted
+pub mod Wanted
+pub mod Kept
+pub mod Frames
+pub mod Counts
+pub mod Sound
+pub mod Agrees
+pub mod Accounts
+pub mod Ends
