@@ -1,0 +1,4 @@
+pub mod Puts
+pub mod Places
+pub mod Effects
+pub mod Moved
