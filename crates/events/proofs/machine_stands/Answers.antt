@@ -1,0 +1,5 @@
+use Rattle.events.proofs.Tales.{tale-flip}
+use Rattle.events.proofs.machine_stands.Needs as need
+
+pub returns : need.returns
+returns c = ?

@@ -1,0 +1,9 @@
+pub mod Lines
+pub mod Behind
+pub mod Lists
+pub mod Settled
+pub mod Certificates
+pub mod Moments
+pub mod Soon
+pub mod Lately
+pub mod Flips

@@ -1,0 +1,19 @@
+//! What holds of ends, overlap and first wrong moments, and of meetings and partings on paths.
+ghost use Rattle.geometry_laws.specs.Certificates.{Certificates-right, Certificates-usual, Certificates-one, Sides-told, Flips-once};
+
+/// The first wrong moment of a bit is computed right over all fractions, in least terms, and is the only answer.
+pub fn certificates_stand() -> u8
+    ensures right { λ _. ⌜ Certificates-right ⌝ }
+    ensures usual { λ _. ⌜ Certificates-usual ⌝ }
+    ensures one { λ _. ⌜ Certificates-one ⌝ }
+{
+    0
+}
+
+/// On fixed lines a true bit goes wrong at side 1 and a false one at side 0, and a bit flips at most once at a moment.
+pub fn flips_stand() -> u8
+    ensures sides { λ _. ⌜ Sides-told ⌝ }
+    ensures once { λ _. ⌜ Flips-once ⌝ }
+{
+    0
+}
