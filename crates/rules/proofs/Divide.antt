@@ -25,7 +25,7 @@ divides-rest k a b d c = (c .0 - d .0, omega (arith, d .1, c .1, mul-sub k (c .0
 pub divides-rem : (k a b : ℕ) → Divides k a → Divides k b → Divides k (a % b)
 divides-rem k a b d c =
     divides-rest k ((a / b) * b) (a % b) (divides-times k b (a / b) c)
-        (d .0, omega (arith, div-add-mod a b, d .1))
+    (d .0, omega (arith, div-add-mod a b, d .1))
 
 pub divides-back : (k a b : ℕ) → Divides k b → Divides k (a % b) → Divides k a
 divides-back k a b c r =
@@ -58,12 +58,13 @@ least-is n d g h i =
   where
     go : (p q : ℕ) → n ≡ p * g → d ≡ q * g → Least n d (record { num = p; den = q })
     go p q e f = record {
-        proper = pos-factor q g d h f;
-        same = ap (λ (x : ℕ). p * x) f ∙ omega (arith, ap (λ (x : ℕ). x * q) e);
-        coprime = λ k a b. one-divides k g (i .positive)
-            (i .common (k * g)
-                (subst (λ (x : ℕ). Divides (k * g) x) (sym e) (times-divides k g p a))
-                (subst (λ (x : ℕ). Divides (k * g) x) (sym f) (times-divides k g q b))) }
+      proper = pos-factor q g d h f;
+      same = ap (λ (x : ℕ). p * x) f ∙ omega (arith, ap (λ (x : ℕ). x * q) e);
+      coprime = λ k a b. one-divides k g (i .positive)
+          (i .common (k * g)
+          (subst (λ (x : ℕ). Divides (k * g) x) (sym e) (times-divides k g p a))
+          (subst (λ (x : ℕ). Divides (k * g) x) (sym f) (times-divides k g q b)));
+    }
       where
         pos-factor : (q g d : ℕ) → 0 < d → d ≡ q * g → 0 < q
         pos-factor zero g d h e = omega arith

@@ -40,4 +40,4 @@ not-after-trans r s t q h k =
 pub same-trans : (r s t : Fraction) → Proper s → SameTime r s → SameTime s t → SameTime r t
 same-trans r s t ps e f =
     eq-of-mul-eq-mul-right (s .den) ps (r .num * t .den) (t .num * r .den)
-        (omega (arith, ap (λ (x : ℕ). x * t .den) e, ap (λ (x : ℕ). x * r .den) f))
+    (omega (arith, ap (λ (x : ℕ). x * t .den) e, ap (λ (x : ℕ). x * r .den) f))

@@ -37,6 +37,7 @@ earlier-test x y b c = go (decLt x y) (decLt y x)
           where
             no-way : false ≡ true → ⊥
             no-way e = let z : _≡_ {A = ℕ} 0 1 = ap side e in omega arith
+
             late : (c : Bool) → 1 < side c → ⊥
             late true l = omega arith
             late false l = omega arith
@@ -46,10 +47,11 @@ tests-right = ((λ s t. decides-ltb (s .num * t .den) (t .num * s .den)), (λ m 
 
 pub times-ordered : Times-ordered
 times-ordered = record {
-    trans = λ x y z p q r h k. before-trans x y z p h k;
-    apart = λ x y h k. omega arith;
-    total = λ x y p q. total x y (decLt (x .num * y .den) (y .num * x .den)) (decLt (y .num * x .den) (x .num * y .den));
-    same = λ x y p q s h. omega arith }
+  trans = λ x y z p q r h k. before-trans x y z p h k;
+  apart = λ x y h k. omega arith;
+  total = λ x y p q. total x y (decLt (x .num * y .den) (y .num * x .den)) (decLt (y .num * x .den) (x .num * y .den));
+  same = λ x y p q s h. omega arith;
+}
   where
     total : (x y : Fraction) → Dec (Before x y) → Dec (Before y x) → Before x y ⊎ (SameTime x y ⊎ Before y x)
     total x y (yes h) k = inl h
@@ -58,16 +60,18 @@ times-ordered = record {
 
 pub stamps-ordered : Stamps-ordered
 stamps-ordered = record {
-    trans = λ x y z p q r h k. earlier-trans x y z p q r h k;
-    apart = asym;
-    total = λ x y p q. total x y (decLt (x .time .num * y .time .den) (y .time .num * x .time .den)) (decLt (y .time .num * x .time .den) (x .time .num * y .time .den));
-    same = λ x y p q s h. clash x y s h }
+  trans = λ x y z p q r h k. earlier-trans x y z p q r h k;
+  apart = asym;
+  total = λ x y p q. total x y (decLt (x .time .num * y .time .den) (y .time .num * x .time .den)) (decLt (y .time .num * x .time .den) (x .time .num * y .time .den));
+  same = λ x y p q s h. clash x y s h;
+}
   where
     sides : (b c : Bool) → (side b < side c) ⊎ ((b ≡ c) ⊎ (side c < side b))
     sides true true = inr (inl refl)
     sides true false = inr (inr (omega arith))
     sides false true = inl (omega arith)
     sides false false = inr (inl refl)
+
     total : (x y : Stamp) → Dec (Before (x .time) (y .time)) → Dec (Before (y .time) (x .time)) → Earlier x y ⊎ (SameStamp x y ⊎ Earlier y x)
     total x y (yes h) k = inl (inl h)
     total x y (no h) (yes k) = inr (inr (inl k))
@@ -77,6 +81,7 @@ stamps-ordered = record {
         go e (inl a) = inl (inr (e, a))
         go e (inr (inl a)) = inr (inl (e, a))
         go e (inr (inr a)) = inr (inr (inr (sym e, a)))
+
     clash : (x y : Stamp) → SameStamp x y → Earlier x y → ⊥
     clash x y s (inl h) = omega (arith, s .0)
     clash x y s (inr h) = omega (arith, h .1, ap side (s .1))

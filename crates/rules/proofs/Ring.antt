@@ -18,11 +18,18 @@ distl a b c = omega (arith, ints, ap (λ (x : ℕ). x * up a) (sum-is b c), ap (
 
 pub assoc : (a b c : ℤ) → (a *ℤ b) *ℤ c ≡ a *ℤ (b *ℤ c)
 assoc a b c =
-    omega (arith, ints,
-        ap (λ (x : ℕ). x * up c) (product-is a b .0), ap (λ (x : ℕ). x * down c) (product-is a b .0),
-        ap (λ (x : ℕ). x * up c) (product-is a b .1), ap (λ (x : ℕ). x * down c) (product-is a b .1),
-        ap (λ (x : ℕ). up a * x) (product-is b c .0), ap (λ (x : ℕ). down a * x) (product-is b c .0),
-        ap (λ (x : ℕ). up a * x) (product-is b c .1), ap (λ (x : ℕ). down a * x) (product-is b c .1))
+    omega (
+      arith,
+      ints,
+      ap (λ (x : ℕ). x * up c) (product-is a b .0),
+      ap (λ (x : ℕ). x * down c) (product-is a b .0),
+      ap (λ (x : ℕ). x * up c) (product-is a b .1),
+      ap (λ (x : ℕ). x * down c) (product-is a b .1),
+      ap (λ (x : ℕ). up a * x) (product-is b c .0),
+      ap (λ (x : ℕ). down a * x) (product-is b c .0),
+      ap (λ (x : ℕ). up a * x) (product-is b c .1),
+      ap (λ (x : ℕ). down a * x) (product-is b c .1),
+    )
 
 pub mul-≤ : (a b : ℤ) (k : ℕ) → a ≤ℤ b → (a *ℤ pos k) ≤ℤ (b *ℤ pos k)
 mul-≤ a b k h =

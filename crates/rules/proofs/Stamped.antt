@@ -71,4 +71,3 @@ not-earlier-trans i j k pi pj pk h g e = go (earlier-dec i j)
         level (inr a) (inr b) (inl c) (inr e) = omega (arith, same-trans (k .time) (i .time) (j .time) pi (e .0) (a .0))
         level (inr a) (inr b) (inr c) (inl e) = omega (arith, c .0, before-not-after (k .time) (i .time) (j .time) pi pj e (omega (arith, a .0)))
         level (inr a) (inr b) (inr c) (inr e) = omega (arith, c .1, a .1, b .1, e .1)
-

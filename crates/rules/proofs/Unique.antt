@@ -28,17 +28,17 @@ module _ (f : ℕ) (ih : Uniq f) where
   over : (n d m e x y : ℕ) → n + d ≤ suc f → 0 < d → 0 < e → n * e ≡ m * d → Coprime n d → Coprime m e → n ≡ x + d → m ≡ y + e → (n ≡ m) × (d ≡ e)
   over n d m e x y b o p s c k ex ey =
       let r = ih x d y e (omega arith) o p
-                  (omega (arith, s, ap (λ (z : ℕ). z * e) ex, ap (λ (z : ℕ). z * d) ey))
-                  (λ q u v. c q (subst (λ (z : ℕ). Divides q z) (sym ex) (divides-sum q x d u v)) v)
-                  (λ q u v. k q (subst (λ (z : ℕ). Divides q z) (sym ey) (divides-sum q y e u v)) v) in
+      (omega (arith, s, ap (λ (z : ℕ). z * e) ex, ap (λ (z : ℕ). z * d) ey))
+      (λ q u v. c q (subst (λ (z : ℕ). Divides q z) (sym ex) (divides-sum q x d u v)) v)
+      (λ q u v. k q (subst (λ (z : ℕ). Divides q z) (sym ey) (divides-sum q y e u v)) v) in
       (omega (arith, r), r .1)
 
   under : (n d m e x y : ℕ) → n + d ≤ suc f → 0 < n → 0 < x → 0 < y → n * e ≡ m * d → Coprime n d → Coprime m e → d ≡ x + n → e ≡ y + m → (n ≡ m) × (d ≡ e)
   under n d m e x y b o px py s c k ex ey =
       let r = ih n x m y (omega arith) px py
-                  (omega (arith, s, ap (λ (z : ℕ). n * z) ey, ap (λ (z : ℕ). m * z) ex))
-                  (λ q u v. c q u (subst (λ (z : ℕ). Divides q z) (sym ex) (divides-sum q x n v u)))
-                  (λ q u v. k q u (subst (λ (z : ℕ). Divides q z) (sym ey) (divides-sum q y m v u))) in
+      (omega (arith, s, ap (λ (z : ℕ). n * z) ey, ap (λ (z : ℕ). m * z) ex))
+      (λ q u v. c q u (subst (λ (z : ℕ). Divides q z) (sym ex) (divides-sum q x n v u)))
+      (λ q u v. k q u (subst (λ (z : ℕ). Divides q z) (sym ey) (divides-sum q y m v u))) in
       (r .0, omega (arith, r))
 
   step : Uniq (suc f)
@@ -63,4 +63,3 @@ pub least-unique : (s t : Fraction) → Proper s → Proper t → SameTime s t �
 least-unique s t ps pt e c k =
     let r = unique-by (s .num + s .den) (s .num) (s .den) (t .num) (t .den) (omega arith) ps pt e c k in
     λ i. record { num = r .0 i; den = r .1 i }
-

@@ -7,7 +7,6 @@ use Rattle.std.specs.declared.option.Option.{Option}
 use Rattle.std.specs.declared.option.Option.the-variants.{Some, None}
 
 infix 40 _∈_
-
 -- x stands in xs
 abbrev pub _∈_ : {A : Type 0} → A → List A → Type 0
 x ∈ xs = List·Memᴰ x xs

@@ -118,5 +118,5 @@ empty-book n = record { own = λ _. standing; levels = 0; seat = λ _ _. None; l
 -- the riding layer over a book: a level on top with these seats; over a scale above 4 nothing but scale 9
 abbrev pub layered : (seats : ℕ → Option ℕ) → Book → Book
 layered seats b = cond (leb (b .scale) 4)
-  (record { own = b .own; levels = suc (b .levels); seat = put (b .seat) (b .levels) seats; limit = b .limit; scale = 2 * b .scale })
-  (record { own = b .own; levels = b .levels; seat = b .seat; limit = b .limit; scale = 9 })
+    (record { own = b .own; levels = suc (b .levels); seat = put (b .seat) (b .levels) seats; limit = b .limit; scale = 2 * b .scale })
+    (record { own = b .own; levels = b .levels; seat = b .seat; limit = b .limit; scale = 9 })

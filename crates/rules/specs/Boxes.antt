@@ -36,12 +36,13 @@ pub record Ends : Type 0 where
 abbrev pub ends : Box → Axis → Line → Ends
 ends b a l = record {
   low = record { base = l .base -ℤ pos (down-reach b a); slope = l .slope };
-  high = record { base = l .base +ℤ pos (up-reach b a); slope = l .slope } }
+  high = record { base = l .base +ℤ pos (up-reach b a); slope = l .slope };
+}
 
 -- the greater value is behind; just after, of equal values the greater slope
 abbrev pub behind : Line → Line → Stamp → Bool
 behind u v m = ltZ (value v (m .time)) (value u (m .time))
-  || (m .after && not (ltZ (value u (m .time)) (value v (m .time))) && ltZ (v .slope) (u .slope))
+    || (m .after && not (ltZ (value u (m .time)) (value v (m .time))) && ltZ (v .slope) (u .slope))
 
 -- neither lower end is behind the other's upper end
 abbrev pub overlap : Ends → Ends → Stamp → Bool

@@ -63,8 +63,8 @@ at-time t (Some w) = Some (record { time = t; news = w })
 -- the report of one record, where these bytes are one: 11 bytes, with a tag of a page and the length 8
 abbrev pub report-in : List ℕ → Option Report
 report-in bs = cond (eqb (length bs) 11 && eqb (number (take 2 (drop 1 bs))) 8)
-  (at-time (record { num = number (take 4 (drop 5 bs)); den = number (take 2 (drop 9 bs)) }) (news-of (getD bs 0 0) (getD bs 3 0) (getD bs 4 0)))
-  None
+    (at-time (record { num = number (take 4 (drop 5 bs)); den = number (take 2 (drop 9 bs)) }) (news-of (getD bs 0 0) (getD bs 3 0) (getD bs 4 0)))
+    None
 
 abbrev pub before-rest : Option Report → Option (List Report) → Option (List Report)
 before-rest None rest = None

@@ -44,7 +44,7 @@ legs-right (l ∷ ls) end = ltb (l .from) (until ls end) && (on-every-axis (λ a
 -- whether a plan keeps its rules
 abbrev pub plan-right : Plan → Bool
 plan-right p =
-  on-every-axis (λ a. within 1000000 (p .start a))
-  && (leb 1 (p .count) && leb (p .count) 8)
-  && legs-right (p .legs) (p .end)
-  && leb (p .end) 50000
+    on-every-axis (λ a. within 1000000 (p .start a))
+    && (leb 1 (p .count) && leb (p .count) 8)
+    && legs-right (p .legs) (p .end)
+    && leb (p .end) 50000

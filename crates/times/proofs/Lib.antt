@@ -1,7 +1,1 @@
-pub mod Ring
-pub mod Divide
-pub mod Order
-pub mod Stamped
-pub mod Unique
-pub mod Made
-pub mod Ordering
+pub mod Times

@@ -2,7 +2,6 @@
 ghost use mathlib.Core.Path.{_≡_};
 ghost use Rattle.rules.specs.Stamps.{is-earlier, at, just-after};
 ghost use Rattle.times.specs.Of.{time-of, moment-of};
-
 use crate::time::Time;
 use crate::time::TimeDebug;
 use crate::time::TimePartialEq;

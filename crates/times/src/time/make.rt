@@ -3,7 +3,6 @@ ghost use mathlib.Core.Path.{_≡_};
 ghost use Prim.Native.Nat.{_/_};
 ghost use Rattle.rules.specs.Fractions.{time-made, tick-made, tick, whole};
 ghost use Rattle.times.specs.Of.{time-of, time-told};
-
 use crate::refusal::Refusal;
 use crate::time::Time;
 use crate::time::gcd::gcd;
@@ -24,7 +23,10 @@ impl Time {
             return Err(Refusal::GoalRange);
         }
         let g = gcd(n, u32::from(d));
-        Ok(Time { n: n / g, d: (u32::from(d) / g) as u16 })
+        Ok(Time {
+            n: n / g,
+            d: (u32::from(d) / g) as u16,
+        })
     }
 
     /// A whole tick as a time; refused above 50,000.
@@ -34,7 +36,10 @@ impl Time {
         if tick > 50000 {
             return Err(Refusal::GoalRange);
         }
-        Ok(Time { n: u32::from(tick), d: 1 })
+        Ok(Time {
+            n: u32::from(tick),
+            d: 1,
+        })
     }
 
     /// The numerator in least terms.

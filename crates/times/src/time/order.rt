@@ -2,7 +2,6 @@
 ghost use mathlib.Core.Path.{_≡_};
 ghost use Rattle.rules.specs.Fractions.{is-before, is-same};
 ghost use Rattle.times.specs.Of.{time-of};
-
 use crate::time::Time;
 
 impl Time {

@@ -1,0 +1,5 @@
+pub mod Orders
+pub mod Tables
+pub mod Gaps
+pub mod Pigeons
+pub mod Places

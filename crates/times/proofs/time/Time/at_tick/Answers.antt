@@ -1,0 +1,6 @@
+use native.Mathlib.Omega.{arith}
+use Rattle.times.proofs.Times.{coprime-one}
+use Rattle.times.proofs.time.Time.at_tick.Needs as need
+
+pub ghost-result : need.ghost-result
+ghost-result c = (omega arith, (omega arith, (omega arith, (coprime-one (c .from .result), tt))))
