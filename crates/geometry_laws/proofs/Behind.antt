@@ -51,25 +51,32 @@ bit-decides b = ((λ e. e), (λ e. e))
 pub behind-decides : (u v : Line) (m : Stamp) → Decides (behind u v m) (Pos (diff u v) m)
 behind-decides u v m =
     decides-like (behind u v m) out back
-        (decides-or (ltZ y x) ((m .after && not (ltZ x y)) && ltZ (v .slope) (u .slope)) (turn x y z h l e f)
-            (decides-and (m .after && not (ltZ x y)) (ltZ (v .slope) (u .slope))
-                (decides-and (m .after) (not (ltZ x y)) (bit-decides (m .after)) (decides-not (ltZ x y) (turn-back x y z h l e f)))
-                (steeper (u .slope) (v .slope))))
+    (decides-or (ltZ y x) ((m .after && not (ltZ x y)) && ltZ (v .slope) (u .slope)) (turn x y z h l e f)
+    (decides-and (m .after && not (ltZ x y)) (ltZ (v .slope) (u .slope))
+    (decides-and (m .after) (not (ltZ x y)) (bit-decides (m .after)) (decides-not (ltZ x y) (turn-back x y z h l e f)))
+    (steeper (u .slope) (v .slope))))
   where
     x : ℤ
     x = value u (m .time)
+
     y : ℤ
     y = value v (m .time)
+
     z : ℤ
     z = value (diff u v) (m .time)
+
     h : ℕ
     h = hi (diff u v) (m .time)
+
     l : ℕ
     l = lo (diff u v) (m .time)
+
     e : z ≡ x -ℤ y
     e = value-diff u v (m .time)
+
     f : up z + l ≡ down z + h
     f = value-lo (diff u v) (m .time)
+
     out : (l < h) ⊎ (((m .after ≡ true) × (h < l → ⊥)) × (down (u .slope -ℤ v .slope) < up (u .slope -ℤ v .slope))) → Pos (diff u v) m
     out (inl p) = inl p
     out (inr p) = go (p .0 .1)
@@ -80,6 +87,7 @@ behind-decides u v m =
             pick : Dec (l < h) → Pos (diff u v) m
             pick (yes q) = inl q
             pick (no q) = inr (p .0 .0, omega arith, p .1)
+
     back : Pos (diff u v) m → (l < h) ⊎ (((m .after ≡ true) × (h < l → ⊥)) × (down (u .slope -ℤ v .slope) < up (u .slope -ℤ v .slope)))
     back (inl p) = inl p
     back (inr p) = inr ((p .0, λ q. omega (arith, p .1, q)), p .2)
@@ -94,8 +102,8 @@ under p q = diff (q .low) (p .high)
 pub overlap-decides : (p q : Ends) (m : Stamp) → Decides (overlap p q m) ((Pos (over p q) m → ⊥) × (Pos (under p q) m → ⊥))
 overlap-decides p q m =
     decides-and (not (behind (p .low) (q .high) m)) (not (behind (q .low) (p .high) m))
-        (decides-not (behind (p .low) (q .high) m) (behind-decides (p .low) (q .high) m))
-        (decides-not (behind (q .low) (p .high) m) (behind-decides (q .low) (p .high) m))
+    (decides-not (behind (p .low) (q .high) m) (behind-decides (p .low) (q .high) m))
+    (decides-not (behind (q .low) (p .high) m) (behind-decides (q .low) (p .high) m))
 
 -- overlap as a fact, with what it comes to
 pub overlap-in : (p q : Ends) (m : Stamp) → ¬ (Pos (over p q) m) → ¬ (Pos (under p q) m) → overlap p q m ≡ true
@@ -122,4 +130,4 @@ apart-under p q m x = not-so (overlap p q m) (λ e. overlap-under p q m e x)
 pub overlap-like : (p q : Ends) (j k : Stamp) → (Pos (over p q) j → Pos (over p q) k) → (Pos (over p q) k → Pos (over p q) j) → (Pos (under p q) j → Pos (under p q) k) → (Pos (under p q) k → Pos (under p q) j) → overlap p q j ≡ overlap p q k
 overlap-like p q j k a b c d =
     same-from-decides (overlap p q j) (overlap p q k) (overlap-decides p q j)
-        (decides-like (overlap p q k) (λ x. ((λ y. x .0 (a y)), (λ y. x .1 (c y)))) (λ x. ((λ y. x .0 (b y)), (λ y. x .1 (d y)))) (overlap-decides p q k))
+    (decides-like (overlap p q k) (λ x. ((λ y. x .0 (a y)), (λ y. x .1 (c y)))) (λ x. ((λ y. x .0 (b y)), (λ y. x .1 (d y)))) (overlap-decides p q k))

@@ -15,7 +15,7 @@ use Rattle.rules.specs.Paths.{Line}
 use Rattle.rules.specs.Boxes.{Ends, overlap, wrong, fails, FirstWrong, Fails}
 use Rattle.rules.proofs.Order.{not-after-before, before-trans}
 use Rattle.rules.proofs.Stamped.{asym, earlier-dec, false-true, not-earlier-out}
-use Rattle.geometry_laws.specs.Certificates.{Sides-told, FlipsOnce, Flips-once}
+use Rattle.geometry_laws.specs.Certificates.{Slow, Sides-told, FlipsOnce, Flips-once}
 use Rattle.geometry_laws.proofs.Lines.{Pos, lo, hi, pos-weak, up-stays, down-stays, same-time-<, same-time-≡}
 use Rattle.geometry_laws.proofs.Behind.{over, under, overlap-decides, overlap-in, overlap-over, overlap-under, overlap-like, not-so}
 use Rattle.geometry_laws.proofs.Lists.{earlier-is, not-earlier-is, not-is-earlier, is-earlier-so, not-earlier-self}
@@ -58,8 +58,8 @@ steepest p q =
 same-side : (m : Stamp) (s : Bool) → m .after ≡ s → m ≡ record { time = m .time; after = s }
 same-side m s e = λ i. record { time = m .time; after = e i }
 
-pub from-some : (bit : Bool) (p q : Ends) (m k : Stamp) → Proper (m .time) → NotAfter (m .time) (tick 50000) → fails bit p q m ≡ Some k → FirstWrong bit p q m k
-from-some bit p q m k pm im e = subst (λ (o : Option Stamp). Fails bit p q m o) e (certificates-right bit p q m pm im)
+pub from-some : (bit : Bool) (p q : Ends) (m k : Stamp) → Proper (m .time) → NotAfter (m .time) (tick 50000) → Slow p q → fails bit p q m ≡ Some k → FirstWrong bit p q m k
+from-some bit p q m k pm im slow e = subst (λ (o : Option Stamp). Fails bit p q m o) e (certificates-right bit p q m pm im slow)
 
 not-true : (x : Bool) → wrong true x ≡ true → x ≡ false
 not-true true e = absurd (false-true e)
@@ -78,13 +78,15 @@ true-late p q m t pm r x = go (earlier-dec m (at t))
   where
     off : overlap p q (at t) ≡ false
     off = not-true (overlap p q (at t)) (x .wrong-then)
+
     far : Before (m .time) t → ⊥
     far b =
         let o = after-zero (m .time) t b in
         let s = steepest p q in
         let z = between (m .time) (lately (s .0) t) t pm (lately-proper (s .0) t (x .proper)) (x .proper) b (lately-before (s .0) t (x .proper) o) in
         false-true (sym (apart-before (s .0) p q t (x .proper) o (s .1) off (z .0) (z .1) (z .3) (z .4))
-            ∙ still-true (overlap p q (at (z .0))) (x .right-before (at (z .0)) (z .1) (not-earlier-is (at (z .0)) m (not-yet m (z .0) (z .2))) (earlier-is (at (z .0)) (at t) (inl (z .4)))))
+        ∙ still-true (overlap p q (at (z .0))) (x .right-before (at (z .0)) (z .1) (not-earlier-is (at (z .0)) m (not-yet m (z .0) (z .2))) (earlier-is (at (z .0)) (at t) (inl (z .4)))))
+
     go : Dec (Earlier m (at t)) → ⊥
     go (yes h) = far (at-after m t h)
     go (no h) =
@@ -102,7 +104,7 @@ false-early p q m t pm r x = go (earlier-dec (at t) m)
         false-true (sym (x .right-before (at t) (x .proper) (not-earlier-is (at t) m h) (earlier-is (at t) (just-after t) (at-first t))) ∙ overlap-late p q t (x .wrong-then))
 
 pub sides-told : Sides-told
-sides-told bit p q m k pm im r e = go bit (k .after) refl (from-some bit p q m k pm im e) r
+sides-told bit p q m k pm im slow r e = go bit (k .after) refl (from-some bit p q m k pm im slow e) r
   where
     go : (bit s : Bool) → k .after ≡ s → FirstWrong bit p q m k → wrong bit (overlap p q m) ≡ false → k .after ≡ bit
     go true true f x r = f
@@ -127,9 +129,10 @@ fails-later bit p q k j pk r x = go (earlier-dec k j)
         absurd (clash (wrong bit (overlap p q j)) (wrong bit (overlap p q k)) (ap (wrong bit) (overlap-same p q j k (x .proper) pk (e .0) (e .1))) (x .wrong-then) r)
 
 pub flips-once : Flips-once
-flips-once bit p q m k pm im e =
-    let x = from-some bit p q m k pm im e in
+flips-once bit p q m k pm im slow e =
+    let x = from-some bit p q m k pm im slow e in
     let f = flipped-right bit (overlap p q k) (x .wrong-then) in
     record {
       flipped = f;
-      once = λ j g. earlier-is k j (fails-later (not bit) p q k j (x .proper) f (from-some (not bit) p q k j (x .proper) (x .inside) g)) }
+      once = λ j g. earlier-is k j (fails-later (not bit) p q k j (x .proper) f (from-some (not bit) p q k j (x .proper) (x .inside) slow g));
+    }

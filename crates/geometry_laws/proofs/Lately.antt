@@ -97,6 +97,7 @@ apart-before w p q t pt o s e = go (pos-dec (over p q) (at t)) (pos-dec (under p
     prior : (l : Line) → Pos l (at t) → Prior l t
     prior l (inl x) = inl x
     prior l (inr x) = absurd (false-true (x .0))
+
     go : Dec (Pos (over p q) (at t)) → Dec (Pos (under p q) (at t)) → Throughout (λ r. overlap p q (at r) ≡ false) (lately w t) t
     go (yes x) y = λ r pr k b. apart-over p q (at r) (prior-pos (over p q) t r w pt pr o (s .0 .0) (s .0 .1) b k (prior (over p q) x))
     go (no x) (yes y) = λ r pr k b. apart-under p q (at r) (prior-pos (under p q) t r w pt pr o (s .1 .0) (s .1 .1) b k (prior (under p q) y))

@@ -47,17 +47,17 @@ value-is l t = omega (arith, ints)
 pub same-time-< : (l : Line) (s t : Fraction) → Proper s → Proper t → SameTime s t → lo l s < hi l s → lo l t < hi l t
 same-time-< l s t ps pt e k =
     lt-of-mul-lt-mul-right (s .den)
-        (omega (arith, mul-le-mul-right (t .den) k, ap (λ (x : ℕ). up (l .slope) * x) e, ap (λ (x : ℕ). down (l .slope) * x) e))
+    (omega (arith, mul-le-mul-right (t .den) k, ap (λ (x : ℕ). up (l .slope) * x) e, ap (λ (x : ℕ). down (l .slope) * x) e))
 
 pub same-time-≤ : (l : Line) (s t : Fraction) → Proper s → Proper t → SameTime s t → lo l s ≤ hi l s → lo l t ≤ hi l t
 same-time-≤ l s t ps pt e k =
     le-of-mul-le-mul-right {k = s .den}
-        (omega (arith, mul-le-mul-right (t .den) k, ap (λ (x : ℕ). up (l .slope) * x) e, ap (λ (x : ℕ). down (l .slope) * x) e)) ps
+    (omega (arith, mul-le-mul-right (t .den) k, ap (λ (x : ℕ). up (l .slope) * x) e, ap (λ (x : ℕ). down (l .slope) * x) e)) ps
 
 pub same-time-≡ : (l : Line) (s t : Fraction) → Proper s → Proper t → SameTime s t → lo l s ≡ hi l s → lo l t ≡ hi l t
 same-time-≡ l s t ps pt e k =
     eq-of-mul-eq-mul-right (s .den) ps (lo l t) (hi l t)
-        (omega (arith, ap (λ (x : ℕ). x * t .den) k, ap (λ (x : ℕ). up (l .slope) * x) e, ap (λ (x : ℕ). down (l .slope) * x) e))
+    (omega (arith, ap (λ (x : ℕ). x * t .den) k, ap (λ (x : ℕ). up (l .slope) * x) e, ap (λ (x : ℕ). down (l .slope) * x) e))
 
 late-last : (x y : Bool) → side x ≤ side y → x ≡ true → y ≡ true
 late-last x true h e = refl

@@ -45,9 +45,11 @@ those-out p (y ∷ ys) x h = go (λ f. those-out p ys x f) (p y) refl h
   where
     tail : (x ∈ ys) × (p x ≡ true) → (x ∈ (y ∷ ys)) × (p x ≡ true)
     tail r = (List·Memᴰ·tail (r .0), r .1)
+
     pick : (x ∈ those p ys → (x ∈ ys) × (p x ≡ true)) → p y ≡ true → (x ≡ y) ⊎ (x ∈ those p ys) → (x ∈ (y ∷ ys)) × (p x ≡ true)
     pick r g (inl f) = (List·Memᴰ·head f, ap p f ∙ g)
     pick r g (inr f) = tail (r f)
+
     go : (x ∈ those p ys → (x ∈ ys) × (p x ≡ true)) → (b : Bool) → p y ≡ b → x ∈ cond b (y ∷ those p ys) (those p ys) → (x ∈ (y ∷ ys)) × (p x ≡ true)
     go r true g h = pick r g (List·Memᴰ·cases-cons h)
     go r false g h = tail (r h)
@@ -63,6 +65,7 @@ earliest-best (m ∷ ms) pr = go (earliest ms) (earliest-best ms (λ x h. pr x (
   where
     pm : Proper (m .time)
     pm = pr m (List·Memᴰ·head refl)
+
     go : (o : Option Stamp) → Best ms o → Best (m ∷ ms) (Some (earlier-of m o))
     go None b = (List·Memᴰ·head refl, λ x h. at-m x (List·Memᴰ·cases-cons h))
       where

@@ -21,6 +21,7 @@ at-once-time j k a b = go (not-earlier-out j k a) (not-earlier-out k j b)
     sides false false h g = refl
     sides true false h g = absurd (omega arith)
     sides false true h g = absurd (omega arith)
+
     go : (Before (j .time) (k .time)) ⊎ (SameTime (j .time) (k .time) × (side (j .after) ≤ side (k .after))) →
         (Before (k .time) (j .time)) ⊎ (SameTime (k .time) (j .time) × (side (k .after) ≤ side (j .after))) → SameTime (j .time) (k .time) × (j .after ≡ k .after)
     go (inl a) (inl b) = absurd (omega arith)

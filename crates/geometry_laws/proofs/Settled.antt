@@ -1,7 +1,7 @@
 -- Whether one end is behind another changes only where the two have one value: at that time, or just after it.
 use mathlib.Core.Path.{_≡_, refl, ap, sym, _∙_, subst}
 use mathlib.Core.Logic.{_⊎_, inl, inr, ⊎-elim}
-use mathlib.Core.Bool.{Bool, true, false, cond, _&&_}
+use mathlib.Core.Bool.{Bool, true, false, cond, not, _&&_}
 use mathlib.Core.List.{List, [], _∷_, _++_, List·Memᴰ·head, List·Memᴰ·tail, List·Memᴰ·not-nil, List·Memᴰ·cases-cons}
 use Prim.Native.Nat.{ℕ, zero, suc, _+_, _-_, _*_, _≤_, _<_}
 use native.Mathlib.Omega.{arith}
@@ -13,10 +13,11 @@ use lib.Signed.{leZ, _<ℤ_, _≤ℤ_}
 use borrow.Author.Differences.{ints, up, down, true-is-le, product-is}
 use borrow.Author.Tests.{lt-ltb, le-leb, leb-true, ltb-true}
 use Rattle.std.proofs.shelf.Tests.{and-from, and-parts}
+use Rattle.std.proofs.shelf.Ways.{tells}
 use Rattle.std.specs.declared.option.Option.{Option}
 use Rattle.std.specs.declared.option.Option.the-variants.{Some, None}
 use Rattle.rules.specs.Basics.{_∈_}
-use Rattle.rules.specs.Fractions.{Fraction, Proper, Before, NotAfter, Least, least, tick, Usual}
+use Rattle.rules.specs.Fractions.{Fraction, Proper, Before, NotAfter, Least, least, tick, no-time}
 use Rattle.rules.specs.Stamps.{Stamp, Earlier, NotEarlier, at, just-after}
 use Rattle.rules.specs.Paths.{Line, value}
 use Rattle.rules.specs.Boxes.{quotient, both-sides, crossing}
@@ -28,18 +29,25 @@ use Rattle.geometry_laws.proofs.Lists.{not-earlier-self}
 
 -- where the difference is zero
 abbrev pub test : ℤ → ℤ → Bool
-test n s = ltb 0 (natAbs s) && leZ (pos 0) (n *ℤ s) && leb (natAbs n) (50000 * natAbs s)
+test n s = leZ (pos 0) (n *ℤ s) && not (no-time (natAbs n) (natAbs s))
 
-pub quotient-some : (n s : ℤ) → 0 < natAbs s → pos 0 ≤ℤ (n *ℤ s) → natAbs n ≤ 50000 * natAbs s → quotient n s ≡ Some (least (natAbs n) (natAbs s))
-quotient-some n s a b c =
-    let e : test n s ≡ true = and-from (ltb 0 (natAbs s) && leZ (pos 0) (n *ℤ s)) (leb (natAbs n) (50000 * natAbs s))
-            (and-from (ltb 0 (natAbs s)) (leZ (pos 0) (n *ℤ s)) (lt-ltb 0 (natAbs s) a) (sym (true-is-le (pos 0) (n *ℤ s) (omega (arith, ints, b))))) (le-leb (natAbs n) (50000 * natAbs s) c) in
+is-time : (n d : ℕ) → 0 < d → d ≤ 16000 → n ≤ 50000 * d → not (no-time n d) ≡ true
+is-time n d a b c = grind (arith, tells)
+
+time-is : (n d : ℕ) → not (no-time n d) ≡ true → (0 < d) × (d ≤ 16000) × (n ≤ 50000 * d)
+time-is n d e = (grind (arith, tells), grind (arith, tells), grind (arith, tells))
+
+pub quotient-some : (n s : ℤ) → 0 < natAbs s → natAbs s ≤ 16000 → pos 0 ≤ℤ (n *ℤ s) → natAbs n ≤ 50000 * natAbs s → quotient n s ≡ Some (least (natAbs n) (natAbs s))
+quotient-some n s a w b c =
+    let e : test n s ≡ true = and-from (leZ (pos 0) (n *ℤ s)) (not (no-time (natAbs n) (natAbs s)))
+    (sym (true-is-le (pos 0) (n *ℤ s) (omega (arith, ints, b)))) (is-time (natAbs n) (natAbs s) a w c) in
     ap (λ (b : Bool). cond b (Some (least (natAbs n) (natAbs s))) None) e
 
 -- what a quotient is, where there is one
 pub record Root (n s : ℤ) (t : Fraction) : Type 0 where
   pub is : t ≡ least (natAbs n) (natAbs s)
   pub slope : 0 < natAbs s
+  pub small : natAbs s ≤ 16000
   pub inside : natAbs n ≤ 50000 * natAbs s
 
 pub quotient-out : (n s : ℤ) (t : Fraction) → quotient n s ≡ Some t → Root n s t
@@ -48,9 +56,9 @@ quotient-out n s t e = go (test n s) refl e
     go : (b : Bool) → test n s ≡ b → cond b (Some (least (natAbs n) (natAbs s))) None ≡ Some t → Root n s t
     go false f g = absurd (let z : _≡_ {A = ℕ} 0 1 = cc in omega arith)
     go true f g =
-        let p = and-parts (ltb 0 (natAbs s) && leZ (pos 0) (n *ℤ s)) (leb (natAbs n) (50000 * natAbs s)) f in
-        let q = and-parts (ltb 0 (natAbs s)) (leZ (pos 0) (n *ℤ s)) (p .0) in
-        record { is = cc; slope = ltb-true 0 (natAbs s) (q .0); inside = leb-true (natAbs n) (50000 * natAbs s) (p .1) }
+        let p = and-parts (leZ (pos 0) (n *ℤ s)) (not (no-time (natAbs n) (natAbs s))) f in
+        let q = time-is (natAbs n) (natAbs s) (p .1) in
+        record { is = cc; slope = q .0; small = q .1; inside = q .2 }
 
 -- over signs: n and s have one sign, and z is their quotient
 root-zero : (n s : ℤ) (x d : ℕ) → x * natAbs s ≡ natAbs n * d → pos 0 ≤ℤ (n *ℤ s) → 0 < natAbs s → n *ℤ pos d ≡ s *ℤ pos x
@@ -136,7 +144,7 @@ pub record Settled (u v : Line) (m j : Stamp) : Type 0 where
   pub on : (i : Stamp) → Proper (i .time) → NotEarlier i from → NotEarlier j i → Pos (diff u v) i → Pos (diff u v) j
   pub off : (i : Stamp) → Proper (i .time) → NotEarlier i from → NotEarlier j i → Pos (diff u v) j → Pos (diff u v) i
 
-module _ (u v : Line) (m j : Stamp) (pm : Proper (m .time)) (pj : Proper (j .time)) (h : NotEarlier j m) (i : NotAfter (j .time) (tick 50000)) where
+module _ (u v : Line) (m j : Stamp) (pm : Proper (m .time)) (pj : Proper (j .time)) (h : NotEarlier j m) (i : NotAfter (j .time) (tick 50000)) (w : natAbs (u .slope -ℤ v .slope) ≤ 16000) where
   -- from the start
   whole-way : ((k : Stamp) → Proper (k .time) → NotEarlier k m → NotEarlier j k → Pos (diff u v) k → Pos (diff u v) j) →
       ((k : Stamp) → Proper (k .time) → NotEarlier k m → NotEarlier j k → Pos (diff u v) j → Pos (diff u v) k) → Settled u v m j
@@ -149,10 +157,10 @@ module _ (u v : Line) (m j : Stamp) (pm : Proper (m .time)) (pj : Proper (j .tim
     zero-there : lo (diff u v) (least (natAbs (v .base -ℤ u .base)) (natAbs (u .slope -ℤ v .slope))) ≡ hi (diff u v) (least (natAbs (v .base -ℤ u .base)) (natAbs (u .slope -ℤ v .slope)))
     zero-there =
         root-at u v (least (natAbs (v .base -ℤ u .base)) (natAbs (u .slope -ℤ v .slope)))
-            (root-zero (v .base -ℤ u .base) (u .slope -ℤ v .slope) _ _ (right .same) b o)
+        (root-zero (v .base -ℤ u .base) (u .slope -ℤ v .slope) _ _ (right .same) b o)
 
     crossing-is : crossing u v ≡ both-sides (Some (least (natAbs (v .base -ℤ u .base)) (natAbs (u .slope -ℤ v .slope))))
-    crossing-is = ap both-sides (quotient-some (v .base -ℤ u .base) (u .slope -ℤ v .slope) o b c)
+    crossing-is = ap both-sides (quotient-some (v .base -ℤ u .base) (u .slope -ℤ v .slope) o w b c)
 
     at-in : at (least (natAbs (v .base -ℤ u .base)) (natAbs (u .slope -ℤ v .slope))) ∈ crossing u v
     at-in = subst (λ (xs : List Stamp). at (least (natAbs (v .base -ℤ u .base)) (natAbs (u .slope -ℤ v .slope))) ∈ xs) (sym crossing-is) (List·Memᴰ·head refl)
@@ -166,11 +174,14 @@ module _ (u v : Line) (m j : Stamp) (pm : Proper (m .time)) (pj : Proper (j .tim
       where
         go : (z : Fraction) → Proper z → lo (diff u v) z ≡ hi (diff u v) z → just-after z ∈ crossing u v → Settled u v m j
         go z pz e k = record {
-            from = just-after z; proper = pz; one = inr k;
-            since = λ x. a (up-stays (diff u v) (just-after z) m pz pm (omega arith) (λ y. asym (just-after z) m x y) (rises-late (diff u v) z pz e r));
-            until = λ x. rises-not-before (diff u v) z pz e r j pj x p;
-            on = λ i pi x y q. p;
-            off = λ i pi x y q. up-stays (diff u v) (just-after z) i pz pi (omega arith) x (rises-late (diff u v) z pz e r) }
+          from = just-after z;
+          proper = pz;
+          one = inr k;
+          since = λ x. a (up-stays (diff u v) (just-after z) m pz pm (omega arith) (λ y. asym (just-after z) m x y) (rises-late (diff u v) z pz e r));
+          until = λ x. rises-not-before (diff u v) z pz e r j pj x p;
+          on = λ i pi x y q. p;
+          off = λ i pi x y q. up-stays (diff u v) (just-after z) i pz pi (omega arith) x (rises-late (diff u v) z pz e r);
+        }
 
     -- it falls to zero between m and j
     falls : up (u .slope -ℤ v .slope) < down (u .slope -ℤ v .slope) → Pos (diff u v) m → ¬ (Pos (diff u v) j) → Settled u v m j
@@ -178,11 +189,14 @@ module _ (u v : Line) (m j : Stamp) (pm : Proper (m .time)) (pj : Proper (j .tim
       where
         go : (z : Fraction) → Proper z → lo (diff u v) z ≡ hi (diff u v) z → at z ∈ crossing u v → Settled u v m j
         go z pz e k = record {
-            from = at z; proper = pz; one = inr k;
-            since = λ x. falls-at (diff u v) z pz e r (down-stays (diff u v) (at z) m pz pm (omega arith) (λ y. asym (at z) m x y) a);
-            until = λ x. p (falls-not-before (diff u v) z pz e r j pj x);
-            on = λ i pi x y q. absurd (falls-at (diff u v) z pz e r (down-stays (diff u v) (at z) i pz pi (omega arith) x q));
-            off = λ i pi x y q. absurd (p q) }
+          from = at z;
+          proper = pz;
+          one = inr k;
+          since = λ x. falls-at (diff u v) z pz e r (down-stays (diff u v) (at z) m pz pm (omega arith) (λ y. asym (at z) m x y) a);
+          until = λ x. p (falls-not-before (diff u v) z pz e r j pj x);
+          on = λ i pi x y q. absurd (falls-at (diff u v) z pz e r (down-stays (diff u v) (at z) i pz pi (omega arith) x q));
+          off = λ i pi x y q. absurd (p q);
+        }
 
   pub settled : Settled u v m j
   settled = go (decLt (down (u .slope -ℤ v .slope)) (up (u .slope -ℤ v .slope))) (decLt (up (u .slope -ℤ v .slope)) (down (u .slope -ℤ v .slope))) (pos-dec (diff u v) m) (pos-dec (diff u v) j)

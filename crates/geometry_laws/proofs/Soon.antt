@@ -84,6 +84,7 @@ overlap-after w p q t pt s r pr b k =
   where
     forth : (l : Line) → Slope w l → Pos l (just-after t) → Pos l (at r)
     forth l s x = after-pos l t r w pt pr (s .0) (s .1) b k x
+
     back : (l : Line) → Slope w l → Pos l (at r) → Pos l (just-after t)
     back l s x = go (pos-dec l (just-after t))
       where

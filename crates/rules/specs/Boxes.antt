@@ -9,7 +9,7 @@ use lib.Signed.{ltZ, leZ, _≤ℤ_}
 use Rattle.std.specs.declared.option.Option.{Option}
 use Rattle.std.specs.declared.option.Option.the-variants.{Some, None}
 use Rattle.rules.specs.Basics.{those}
-use Rattle.rules.specs.Fractions.{Fraction, Proper, Before, NotAfter, Throughout, tick, least}
+use Rattle.rules.specs.Fractions.{Fraction, Proper, Before, NotAfter, Throughout, tick, least, no-time}
 use Rattle.rules.specs.Stamps.{Stamp, at, just-after, is-earlier, earliest}
 use Rattle.rules.specs.Paths.{Axis, Line, Path, leg, value, on-every-axis}
 
@@ -50,7 +50,7 @@ overlap p q m = not (behind (p .low) (q .high) m) && not (behind (q .low) (p .hi
 
 -- n / s, where that is a time
 abbrev pub quotient : ℤ → ℤ → Option Fraction
-quotient n s = cond (ltb 0 (natAbs s) && leZ (pos 0) (n *ℤ s) && leb (natAbs n) (50000 * natAbs s)) (Some (least (natAbs n) (natAbs s))) None
+quotient n s = cond (leZ (pos 0) (n *ℤ s) && not (no-time (natAbs n) (natAbs s))) (Some (least (natAbs n) (natAbs s))) None
 
 -- the moments at which two ends that differ in slope have one value
 abbrev pub both-sides : Option Fraction → List Stamp

@@ -42,20 +42,6 @@ impl Time {
         })
     }
 
-    /// The numerator in least terms.
-    pub fn numerator(self) -> u32
-        ensures { λ r. ⌜ r ≡ time-of self .num ⌝ }
-    {
-        self.n
-    }
-
-    /// The denominator in least terms.
-    pub fn denominator(self) -> u16
-        ensures { λ r. ⌜ r ≡ time-of self .den ⌝ }
-    {
-        self.d
-    }
-
     /// The whole part: the last tick that is not after the time.
     pub fn whole(self) -> u16
         ensures { λ r. ⌜ r ≡ whole (time-of self) ⌝ }
