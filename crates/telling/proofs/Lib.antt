@@ -2,3 +2,4 @@ pub mod Puts
 pub mod Places
 pub mod Effects
 pub mod Moved
+pub mod Skies
