@@ -3,3 +3,4 @@ pub mod Places
 pub mod Effects
 pub mod Moved
 pub mod Skies
+pub mod Firing
