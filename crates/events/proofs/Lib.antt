@@ -1,2 +1,5 @@
 pub mod Points
 pub mod Tales
+pub mod Pairs
+pub mod Legs
+pub mod Machine

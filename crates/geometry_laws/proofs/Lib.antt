@@ -7,3 +7,9 @@ pub mod Moments
 pub mod Soon
 pub mod Lately
 pub mod Flips
+pub mod Paths
+pub mod Near
+pub mod Points
+pub mod Turns
+pub mod Track
+pub mod Pair

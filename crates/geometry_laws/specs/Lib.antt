@@ -1,1 +1,3 @@
 pub mod Certificates
+pub mod Points
+pub mod Turns
