@@ -15,7 +15,7 @@ use Rattle.rules.specs.Boxes.{Box, Ends, ends, overlap, fails}
 use Rattle.rules.specs.Slots.{slot, leg-slot}
 use Rattle.model.specs.Halls.{Craft, Hall, with-book, with-craft, with-bit, with-slot, others}
 use Rattle.model.specs.Moves.{Out, silent, then, each, on-axes, withdrawn, fired, grant, take-away, nobody, craft-of, ends-of, read-bit, grant-bit, enter-bit, drop-bit, at-break, grant-leg, read-leg, enter, leave, axis-of, lower-of, higher-of, fire-bit, renew, fire-leg, fire-kind, fire}
-use Rattle.telling.proofs.Puts.{put-here, put-other, same-or-not}
+use Rattle.accounts.proofs.Puts.{put-here, put-other, same-or-not}
 
 -- a slot's bit and moment
 abbrev pub Cell : Type 0

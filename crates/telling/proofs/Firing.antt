@@ -27,7 +27,7 @@ use Rattle.model.specs.Histories.{stepped-with}
 use Rattle.queues.specs.Laws.{Held}
 use Rattle.queues.proofs.Firsts.{first-right, soonest-first, some-none}
 use Rattle.events.specs.Machine.{Sky, flies, Pair, In, Core, Certified, Reads, None-before, Quiet, Flips, Rereads, Fires, bit-fires, leg-fires, telling}
-use Rattle.telling.proofs.Puts.{put-here, put-other, same-or-not}
+use Rattle.accounts.proofs.Puts.{put-here, put-other, same-or-not}
 use Rattle.telling.proofs.Places.{slot-swap, slot-low, slot-one, slot-axis, slot-lower, slot-higher, slot-leg}
 use Rattle.telling.proofs.Effects.{Cell, cell, failing, renewed}
 use Rattle.telling.proofs.Moved.{Moved, Other, others-out, others-in, cell-pair, cell-apart, leg-apart, craft-anew, still-in, leg-fired, leg-amidst, leg-moved, bit-fired, flipped-cell, bit-fired-here, bit-fired-other}
@@ -61,7 +61,7 @@ module _ (m : Hall) (g : Good m) (k : Stamp) (uk : Usual (k .time)) where
         inside = record { first = in-flight m c ic; second = in-flight m d id; order = p };
         due = due;
         turned = ap (λ (x : Cell). x .0) (bit-fired-here a c d k m p q);
-        next = certified flipped (g .slow) k a c d p (uk .proper) (usual-inside (k .time) uk)
+        next = certified flipped (g .slow) k a c d p ic id (uk .proper) (usual-inside (k .time) uk)
             (ap (λ (x : Cell). x .1) (bit-fired-here a c d k m p q) ∙ ap (failing (m .craft) k a c d) (sym (ap (λ (x : Cell). x .0) (bit-fired-here a c d k m p q))));
         bits = λ j r b n. ap (λ (x : Cell). x .0) (bit-fired-other a c d k m p q (slot b (j .lower) (j .higher)) (other-slot j r b n));
         fails = λ j r b n. ap (λ (x : Cell). x .1) (bit-fired-other a c d k m p q (slot b (j .lower) (j .higher)) (other-slot j r b n));
@@ -150,10 +150,10 @@ module _ (m : Hall) (g : Good m) (k : Stamp) (uk : Usual (k .time)) where
     next i r o a = subst (λ (y : Sky). Certified y (core-of reread) k i a) leg-sky (by o)
       where
         by : (i .lower ≡ c) ⊎ (i .higher ≡ c) → Certified (sky-of reread) (core-of reread) k i a
-        by (inl e) = certified reread anew-slow k a (i .lower) (i .higher) (r .order) (uk .proper) (usual-inside (k .time) uk)
+        by (inl e) = certified reread anew-slow k a (i .lower) (i .higher) (r .order) (in-same (i .lower) ∙ flying m (i .lower) (r .first)) (in-same (i .higher) ∙ flying m (i .higher) (r .second)) (uk .proper) (usual-inside (k .time) uk)
             (subst (λ (x : ℕ). reread .queue (slot a x (i .higher)) ≡ failing (reread .craft) k a x (i .higher) (reread .bit (slot a x (i .higher)))) (sym e)
                 (pair-cell a (i .higher) (flying m (i .higher) (r .second)) (λ f. let z = r .order in omega (arith, e, f))))
-        by (inr e) = certified reread anew-slow k a (i .lower) (i .higher) (r .order) (uk .proper) (usual-inside (k .time) uk)
+        by (inr e) = certified reread anew-slow k a (i .lower) (i .higher) (r .order) (in-same (i .lower) ∙ flying m (i .lower) (r .first)) (in-same (i .higher) ∙ flying m (i .higher) (r .second)) (uk .proper) (usual-inside (k .time) uk)
             (subst (λ (x : ℕ). reread .queue (slot a (i .lower) x) ≡ failing (reread .craft) k a (i .lower) x (reread .bit (slot a (i .lower) x))) (sym e)
                 (pair-swap a (i .lower) (flying m (i .lower) (r .first)) (λ f. let z = r .order in omega (arith, e, f))))
 

@@ -11,15 +11,16 @@ use Rattle.std.specs.declared.option.Option.{Option}
 use Rattle.std.specs.declared.option.Option.the-variants.{Some, None}
 use Rattle.std.specs.Options.{isSome}
 use Rattle.std.proofs.shelf.Tests.{and-parts, and-from, not-true, not-from-false}
-use Rattle.rules.specs.Basics.{_∈_, put, the, those, below}
+use Rattle.rules.specs.Basics.{_∈_, put, the, those}
 use Rattle.rules.specs.Stamps.{Stamp}
 use Rattle.rules.specs.Paths.{Axis, X, Y, Z, leg}
 use Rattle.rules.specs.Books.{Book, path, break-after}
 use Rattle.rules.specs.Boxes.{Box, Ends, ends, overlap, fails}
 use Rattle.rules.specs.Slots.{slot, leg-slot}
-use Rattle.model.specs.Halls.{Craft, Hall, with-book, with-craft, with-bit, with-slot, in-hall, others}
+use Rattle.model.specs.Halls.{Craft, Hall, with-book, with-craft, with-bit, with-slot, all-craft, in-hall, others}
 use Rattle.model.specs.Moves.{Out, silent, then, each, on-axes, withdrawn, fired, grant, take-away, nobody, craft-of, ends-of, grant-bit, enter-bit, drop-bit, at-break, grant-leg, read-leg, enter, leave, axis-of, lower-of, higher-of, fire-bit, renew, fire-leg, fire-kind, fire}
-use Rattle.telling.proofs.Puts.{put-here, put-other, same-or-not, those-in, in-those, in-below, below-in}
+use Rattle.accounts.proofs.Puts.{put-here, put-other, same-or-not, those-in, in-those}
+use Rattle.accounts.proofs.Frames.{craft-below, below-craft}
 use Rattle.telling.proofs.Places.{slot-swap, slot-low, slot-axis, slot-lower, slot-higher, slot-other, slot-apart, slot-leg}
 use Rattle.telling.proofs.Effects.{Cell, cell, Written, Wrote, axes-keeps, axes-wrote, ends-in, failing, overlapping, fresh, Amid, Amidst, renewed, enter-axes, drop-axes, renew-each}
 
@@ -36,12 +37,12 @@ pub record Other (c : ℕ) (m : Hall) (d : ℕ) : Type 0 where
 
 pub others-out : (c : ℕ) (m : Hall) (d : ℕ) → d ∈ others c m → Other c m d
 others-out c m d e =
-    let z = those-in (λ d. in-hall m d && not (eqb d c)) (below 64) d e in
+    let z = those-in (λ d. in-hall m d && not (eqb d c)) all-craft d e in
     let y = and-parts (in-hall m d) (not (eqb d c)) (z .1) in
-    record { low = in-below 64 d (z .0); here = y .0; apart = eqb-false d c (not-true (eqb d c) (y .1)) }
+    record { low = craft-below d (z .0); here = y .0; apart = eqb-false d c (not-true (eqb d c) (y .1)) }
 
 pub others-in : (c : ℕ) (m : Hall) (d : ℕ) → Other c m d → d ∈ others c m
-others-in c m d o = in-those (λ d. in-hall m d && not (eqb d c)) (below 64) d (below-in 64 d (o .low)) (and-from (in-hall m d) (not (eqb d c)) (o .here) (not-from-false (eqb d c) (ne-eqb d c (o .apart))))
+others-in c m d o = in-those (λ d. in-hall m d && not (eqb d c)) all-craft d (below-craft d (o .low)) (and-from (in-hall m d) (not (eqb d c)) (o .here) (not-from-false (eqb d c) (ne-eqb d c (o .apart))))
 
 -- ---- what it says of pairs and craft
 module _ (c : ℕ) (ds : List ℕ) (v : Axis → ℕ → Cell) (l : Option Stamp) (m h : Hall) (hc : c < 64)
@@ -114,14 +115,6 @@ module _ (c : ℕ) (m : Hall) where
       leg = put-here (leave-mid .queue) (leg-slot c) None }
 
 -- ---- firing a leg certificate
-abbrev others-of : ℕ → (ℕ → Option Craft) → List ℕ
-others-of c cr = those (λ d. isSome (cr d) && not (eqb d c)) (below 64)
-
--- the same craft are entered
-others-alike : (c : ℕ) (f g : ℕ → Option Craft) (xs : List ℕ) → ((d : ℕ) → isSome (f d) ≡ isSome (g d)) → those (λ d. isSome (f d) && not (eqb d c)) xs ≡ those (λ d. isSome (g d) && not (eqb d c)) xs
-others-alike c f g [] e = refl
-others-alike c f g (x ∷ xs) e = λ i. cond (e x i && not (eqb x c)) (x ∷ others-alike c f g xs e i) (others-alike c f g xs e i)
-
 module _ (c : ℕ) (k : Stamp) (m : Hall) (inside : in-hall m c ≡ true) where
   abbrev pub craft-anew : ℕ → Option Craft
   craft-anew = put (m .craft) c (Some (record { box = craft-of c m .box; leg = leg (path (m .book) c) (k .time) }))
@@ -130,7 +123,7 @@ module _ (c : ℕ) (k : Stamp) (m : Hall) (inside : in-hall m c ≡ true) where
   fire-start = read-leg c (craft-of c m .box) k (take-away fired (leg-slot c) m .hall)
 
   abbrev fire-mid : Hall
-  fire-mid = on-axes (renew c k) fire-start .hall
+  fire-mid = on-axes (renew c (others c m) k) fire-start .hall
 
   pub still-in : (d : ℕ) → isSome (craft-anew d) ≡ in-hall m d
   still-in d = by (same-or-not d c)
@@ -139,20 +132,17 @@ module _ (c : ℕ) (k : Stamp) (m : Hall) (inside : in-hall m c ≡ true) where
       by (inl e) = ap (λ (o : Option Craft). isSome o) (ap craft-anew e ∙ put-here (m .craft) c (Some (record { box = craft-of c m .box; leg = leg (path (m .book) c) (k .time) }))) ∙ sym inside ∙ ap (in-hall m) (sym e)
       by (inr n) = ap (λ (o : Option Craft). isSome o) (put-other (m .craft) c (Some (record { box = craft-of c m .box; leg = leg (path (m .book) c) (k .time) })) d n)
 
-  same-others : (h : Hall) → h .craft ≡ craft-anew → others c h ≡ others c m
-  same-others h e = ap (others-of c) e ∙ others-alike c craft-anew (m .craft) (below 64) still-in
+  renew-keeps : (a : Axis) (h : Hall) → Amidst (m .book) craft-anew k c (m .bit) h → Amidst (m .book) craft-anew k c (m .bit) (renew c (others c m) k a h .hall)
+  renew-keeps a h i = renew-each (m .book) craft-anew k c (m .bit) a (others c m) h i .0
 
-  renew-keeps : (a : Axis) (h : Hall) → Amidst (m .book) craft-anew k c (m .bit) h → Amidst (m .book) craft-anew k c (m .bit) (renew c k a h .hall)
-  renew-keeps a h i = renew-each (m .book) craft-anew k c (m .bit) a (others c h) h i .0
-
-  renew-wrote : (a : Axis) (h : Hall) → Amidst (m .book) craft-anew k c (m .bit) h → (s : ℕ) → Written (others c m) (λ d. slot a c d) (renewed (m .book) craft-anew k c (m .bit) a) (cell h) (cell (renew c k a h .hall)) s
-  renew-wrote a h i s = subst (λ (ds : List ℕ). Written ds (λ d. slot a c d) (renewed (m .book) craft-anew k c (m .bit) a) (cell h) (cell (renew c k a h .hall)) s) (same-others h (i .0 .1)) (renew-each (m .book) craft-anew k c (m .bit) a (others c h) h i .1 s)
+  renew-wrote : (a : Axis) (h : Hall) → Amidst (m .book) craft-anew k c (m .bit) h → (s : ℕ) → Written (others c m) (λ d. slot a c d) (renewed (m .book) craft-anew k c (m .bit) a) (cell h) (cell (renew c (others c m) k a h .hall)) s
+  renew-wrote a h i = renew-each (m .book) craft-anew k c (m .bit) a (others c m) h i .1
 
   mid-amidst : Amidst (m .book) craft-anew k c (m .bit) fire-mid
-  mid-amidst = axes-keeps (renew c k) (Amidst (m .book) craft-anew k c (m .bit)) (others c m) (λ a d. slot a c d) (renewed (m .book) craft-anew k c (m .bit)) renew-keeps renew-wrote fire-start ((refl, refl), refl)
+  mid-amidst = axes-keeps (renew c (others c m) k) (Amidst (m .book) craft-anew k c (m .bit)) (others c m) (λ a d. slot a c d) (renewed (m .book) craft-anew k c (m .bit)) renew-keeps renew-wrote fire-start ((refl, refl), refl)
 
   mid-wrote : (s : ℕ) → Wrote (others c m) (λ a d. slot a c d) (renewed (m .book) craft-anew k c (m .bit)) (cell fire-start) (cell fire-mid) s
-  mid-wrote = axes-wrote (renew c k) (Amidst (m .book) craft-anew k c (m .bit)) (others c m) (λ a d. slot a c d) (renewed (m .book) craft-anew k c (m .bit)) renew-keeps renew-wrote fire-start ((refl, refl), refl)
+  mid-wrote = axes-wrote (renew c (others c m) k) (Amidst (m .book) craft-anew k c (m .bit)) (others c m) (λ a d. slot a c d) (renewed (m .book) craft-anew k c (m .bit)) renew-keeps renew-wrote fire-start ((refl, refl), refl)
 
   abbrev pub leg-fired : Hall
   leg-fired = then (take-away fired (leg-slot c)) (fire-leg c k) m .hall

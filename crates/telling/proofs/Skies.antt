@@ -25,7 +25,7 @@ use Rattle.geometry_laws.specs.Certificates.{Slow}
 use Rattle.geometry_laws.proofs.Certificates.{certificates-right, certificates-usual}
 use Rattle.events.specs.Machine.{Sky, flies, box-of, Pair, In, Core, Certified}
 use Rattle.events.specs.Machine as machine
-use Rattle.telling.proofs.Puts.{put-here, put-other, same-or-not}
+use Rattle.accounts.proofs.Puts.{put-here, put-other, same-or-not}
 use Rattle.telling.proofs.Places.{slot-swap, slot-low, slot-leg, in-order}
 use Rattle.telling.proofs.Effects.{Cell, cell, Wrote, ends-in, failing, overlapping, fresh}
 use Rattle.telling.proofs.Moved.{Moved, Other, others-out, others-in}
@@ -51,22 +51,22 @@ pub flies-is : (o : Option Craft) → isSome (box-in o) ≡ isSome o
 flies-is None = refl
 flies-is (Some x) = refl
 
-box-is : (o : Option Craft) → the (record { half = λ _. 0 }) (box-in o) ≡ the nobody o .box
-box-is None = refl
-box-is (Some x) = refl
+box-is : (o : Option Craft) → isSome o ≡ true → the (record { half = λ _. 0 }) (box-in o) ≡ the nobody o .box
+box-is None e = let z : _≡_ {A = ℕ} 0 1 = cc in absurd (omega arith)
+box-is (Some x) e = refl
 
 abbrev pub two : ℕ → ℕ → Pair
 two c d = record { lower = c; higher = d }
 
--- the ends of a box are the machine's
-pub ends-are : (m : Hall) (a : Axis) (c : ℕ) → machine.ends-in (sky-of m) (core-of m) a c ≡ ends-in (m .craft) a c
-ends-are m a c = ap (λ (b : Box). ends b a (craft-of c m .leg a)) (box-is (m .craft c))
+-- the ends of an entered craft's box are the machine's
+pub ends-are : (m : Hall) (a : Axis) (c : ℕ) → in-hall m c ≡ true → machine.ends-in (sky-of m) (core-of m) a c ≡ ends-in (m .craft) a c
+ends-are m a c ic = ap (λ (b : Box). ends b a (craft-of c m .leg a)) (box-is (m .craft c) ic)
 
-lower-ends : (m : Hall) (a : Axis) (c d : ℕ) → c < d → ends-in (m .craft) a (min c d) ≡ machine.ends-in (sky-of m) (core-of m) a c
-lower-ends m a c d h = ap (ends-in (m .craft) a) (min-eq-left {n = c} {m = d} (omega arith)) ∙ sym (ends-are m a c)
+lower-ends : (m : Hall) (a : Axis) (c d : ℕ) → c < d → in-hall m c ≡ true → ends-in (m .craft) a (min c d) ≡ machine.ends-in (sky-of m) (core-of m) a c
+lower-ends m a c d h ic = ap (ends-in (m .craft) a) (min-eq-left {n = c} {m = d} (omega arith)) ∙ sym (ends-are m a c ic)
 
-higher-ends : (m : Hall) (a : Axis) (c d : ℕ) → c < d → ends-in (m .craft) a (max c d) ≡ machine.ends-in (sky-of m) (core-of m) a d
-higher-ends m a c d h = ap (ends-in (m .craft) a) (max-eq-right {n = c} {m = d} (omega arith)) ∙ sym (ends-are m a d)
+higher-ends : (m : Hall) (a : Axis) (c d : ℕ) → c < d → in-hall m d ≡ true → ends-in (m .craft) a (max c d) ≡ machine.ends-in (sky-of m) (core-of m) a d
+higher-ends m a c d h id = ap (ends-in (m .craft) a) (max-eq-right {n = c} {m = d} (omega arith)) ∙ sym (ends-are m a d id)
 
 -- no leg is faster than a scale of 8 allows
 abbrev pub SlowLegs : (ℕ → Option Craft) → Type 0
@@ -79,18 +79,18 @@ slow-ends : (m : Hall) → SlowLegs (m .craft) → (a : Axis) (c d : ℕ) → Sl
 slow-ends m sl a c d = record { one = slow-apart (craft-of c m .leg a .slope) (craft-of d m .leg a .slope) (sl c a) (sl d a); two = slow-apart (craft-of d m .leg a .slope) (craft-of c m .leg a .slope) (sl d a) (sl c a) }
 
 -- a certificate granted at k is the machine's
-pub certified : (m : Hall) → SlowLegs (m .craft) → (k : Stamp) (a : Axis) (c d : ℕ) → c < d → Proper (k .time) → NotAfter (k .time) (tick 50000) →
+pub certified : (m : Hall) → SlowLegs (m .craft) → (k : Stamp) (a : Axis) (c d : ℕ) → c < d → in-hall m c ≡ true → in-hall m d ≡ true → Proper (k .time) → NotAfter (k .time) (tick 50000) →
     m .queue (slot a c d) ≡ failing (m .craft) k a c d (m .bit (slot a c d)) → Certified (sky-of m) (core-of m) k (two c d) a
-certified m sl k a c d h pk ik e =
+certified m sl k a c d h ic id pk ik e =
     let p = machine.ends-in (sky-of m) (core-of m) a c in
     let q = machine.ends-in (sky-of m) (core-of m) a d in
     let b = m .bit (slot a c d) in
-    subst (λ (o : Option Stamp). Fails b p q k o) (sym (e ∙ (λ i. fails b (lower-ends m a c d h i) (higher-ends m a c d h i) k))) (certificates-right b p q k pk ik (slow-ends m sl a c d))
+    subst (λ (o : Option Stamp). Fails b p q k o) (sym (e ∙ (λ i. fails b (lower-ends m a c d h ic i) (higher-ends m a c d h id i) k))) (certificates-right b p q k pk ik (slow-ends m sl a c d))
 
 -- a bit read at k is the machine's
-pub read-right : (m : Hall) (k : Stamp) (a : Axis) (c d : ℕ) → c < d → m .bit (slot a c d) ≡ overlapping (m .craft) k a c d →
+pub read-right : (m : Hall) (k : Stamp) (a : Axis) (c d : ℕ) → c < d → in-hall m c ≡ true → in-hall m d ≡ true → m .bit (slot a c d) ≡ overlapping (m .craft) k a c d →
     m .bit (slot a c d) ≡ overlap (machine.ends-in (sky-of m) (core-of m) a c) (machine.ends-in (sky-of m) (core-of m) a d) k
-read-right m k a c d h e = e ∙ (λ i. overlap (lower-ends m a c d h i) (higher-ends m a c d h i) k)
+read-right m k a c d h ic id e = e ∙ (λ i. overlap (lower-ends m a c d h ic i) (higher-ends m a c d h id i) k)
 
 pub failing-swap : (cr : ℕ → Option Craft) (k : Stamp) (a : Axis) (c d : ℕ) (b : Bool) → failing cr k a c d b ≡ failing cr k a d c b
 failing-swap cr k a c d b = λ i. fails b (ends-in cr a (min-comm c d i)) (ends-in cr a (max-comm c d i)) k
