@@ -4,3 +4,4 @@ pub mod Moved
 pub mod Skies
 pub mod Firing
 pub mod Steps
+pub mod Changing
