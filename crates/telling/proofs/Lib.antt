@@ -5,3 +5,4 @@ pub mod Skies
 pub mod Firing
 pub mod Steps
 pub mod Changing
+pub mod Resting
