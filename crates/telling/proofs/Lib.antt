@@ -6,3 +6,4 @@ pub mod Firing
 pub mod Steps
 pub mod Changing
 pub mod Resting
+pub mod Ways
