@@ -7,3 +7,4 @@ pub mod Steps
 pub mod Changing
 pub mod Resting
 pub mod Ways
+pub mod History

@@ -109,7 +109,7 @@ failing-usual cr k a c d b j u e =
 pub usual-inside : (t : Fraction) → Usual t → NotAfter t (tick 50000)
 usual-inside t u = let h = u .inside in omega arith
 
-tick-usual : (i : ℕ) → i ≤ 50000 → Usual (tick i)
+pub tick-usual : (i : ℕ) → i ≤ 50000 → Usual (tick i)
 tick-usual i h = record { proper = omega arith; small = omega arith; inside = omega arith; coprime = λ k d e. one k (e .0) (e .1) }
   where
     one : (k q : ℕ) → 1 ≡ q * k → k ≡ 1

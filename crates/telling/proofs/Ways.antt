@@ -125,7 +125,7 @@ module _ (w : ℕ) (w8 : w ≤ 8) where
     way-as : (rs qs : List Report) (k : Clock) (m : Hall) → rs ≡ qs → Way rs k m → Way qs k m
     way-as rs qs k m e v = subst (λ (ls : List Report). Way ls k m) e v
 
-    way-at : (rs : List Report) (k j : Clock) (m : Hall) → k ≡ j → Way rs k m → Way rs j m
+    pub way-at : (rs : List Report) (k j : Clock) (m : Hall) → k ≡ j → Way rs k m → Way rs j m
     way-at rs k j m e v = subst (λ (x : Clock). Way rs x m) e v
 
     set-on : (t : Fraction) (n d : ℕ) (z : State) (rs : List Report) → refusal (setting t n d) z ≡ None → Way rs (z .clock) (z .hall) → Way rs (due t (least n d)) (z .hall)
@@ -172,7 +172,7 @@ module _ (w : ℕ) (w8 : w ≤ 8) where
     same-way : (z : State) (rs : List Report) → Way rs (z .clock) (z .hall) → Way (rs ++ []) (z .clock) (z .hall)
     same-way z rs v = way-as rs (rs ++ []) (z .clock) (z .hall) (sym (append-nil rs)) v
 
-    way-carried : (call : Call) (z : State) (rs : List Report) → refusal call z ≡ None → if-accepted (carried-out call z .answer .result) (change-of call) ≡ [] → Way rs (z .clock) (z .hall) →
+    pub way-carried : (call : Call) (z : State) (rs : List Report) → refusal call z ≡ None → if-accepted (carried-out call z .answer .result) (change-of call) ≡ [] → Way rs (z .clock) (z .hall) →
         Way (rs ++ answer-reports (carried-out call z .answer)) (carried-out call z .state .clock) (carried-out call z .state .hall)
     way-carried (changing t x slip) z rs e none v = let y : _≡_ {A = ℕ} 0 1 = cc in absurd (omega arith)
     way-carried (setting t n d) z rs e none v = way-as rs (rs ++ []) (due t (least n d)) (z .hall) (sym (append-nil rs)) (set-on t n d z rs e v)
