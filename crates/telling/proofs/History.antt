@@ -188,7 +188,7 @@ module _ (w : ℕ) (w8 : w ≤ 8) where
       carried-inv b f z i (listing t room) e = i
       carried-inv b f z i (asking s) e = i
 
-      inv-call : (b : Book) (f : ℕ → Option Box) (z : State) (i : Inv b f z) (call : Call) →
+      pub inv-call : (b : Book) (f : ℕ → Option Box) (z : State) (i : Inv b f z) (call : Call) →
           let xs = if-accepted (perform call z .answer .result) (change-of call) in Inv (changed-by (book-changes xs) b) (boxes-from f xs) (perform call z .state)
       inv-call b f z i call = by (refusal call z) refl
         where

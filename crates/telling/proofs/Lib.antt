@@ -8,3 +8,5 @@ pub mod Changing
 pub mod Resting
 pub mod Ways
 pub mod History
+pub mod Touches
+pub mod Reporting
