@@ -81,14 +81,14 @@ change-sound x k m ls h =
     (enter-each ds m k (with-book (changed x (n .book)) n) (ls ++ each leave ds m .lines) (followers-outside x m) (record { good = g .good; range = g .range }))
 
 -- a slot that is wanted: of a pair in order, or of an entered craft
-wanted-pair : (E : ℕ → Bool) (s : ℕ) → ltb s 12288 ≡ true → wanted E s ≡ true → lower-of s < higher-of s
+pub wanted-pair : (E : ℕ → Bool) (s : ℕ) → ltb s 12288 ≡ true → wanted E s ≡ true → lower-of s < higher-of s
 wanted-pair E s p e = ltb-true (lower-of s) (higher-of s) (last (E (lower-of s) && E (higher-of s)) (ltb (lower-of s) (higher-of s)) (ap (λ (b : Bool). cond b (E (lower-of s) && E (higher-of s) && ltb (lower-of s) (higher-of s)) (E (s - 12288))) (sym p) ∙ e))
   where
     last : (x y : Bool) → x && y ≡ true → y ≡ true
     last true y q = q
     last false y q = absurd (both-ways false refl q)
 
-wanted-leg : (E : ℕ → Bool) (s : ℕ) → ltb s 12288 ≡ false → wanted E s ≡ true → E (s - 12288) ≡ true
+pub wanted-leg : (E : ℕ → Bool) (s : ℕ) → ltb s 12288 ≡ false → wanted E s ≡ true → E (s - 12288) ≡ true
 wanted-leg E s p e = ap (λ (b : Bool). cond b (E (lower-of s) && E (higher-of s) && ltb (lower-of s) (higher-of s)) (E (s - 12288))) (sym p) ∙ e
 
 fire-sound : (s : ℕ) (k : Stamp) (m : Hall) (ls : List ℕ) → s < 12352 → wanted (in-hall m) s ≡ true → Sound m ls → Sound (fire s k m .hall) (ls ++ fire s k m .lines)
@@ -143,7 +143,7 @@ pub record Due (m : Hall) (f : ℕ × Stamp) : Type 0 where
 pub next-holds : (goal : Fraction) (m : Hall) (f : ℕ × Stamp) → next-due goal m ≡ Some f → Due m f
 next-holds goal m f e = let h = first-holds 12352 (m .queue) f (due-first goal (first (m .queue)) f e) in record { queued = h .0; slot = h .1 }
 
-queued-wanted : (m : Hall) (ls : List ℕ) → Sound m ls → (s : ℕ) (k : Stamp) → m .queue s ≡ Some k → wanted (in-hall m) s ≡ true
+pub queued-wanted : (m : Hall) (ls : List ℕ) → Sound m ls → (s : ℕ) (k : Stamp) → m .queue s ≡ Some k → wanted (in-hall m) s ≡ true
 queued-wanted m ls h s k e = sym (h .good .taken s) ∙ by (m .number s) refl
   where
     by : (n : ℕ) → m .number s ≡ n → ltb 0 (m .number s) ≡ true
@@ -159,7 +159,7 @@ pub record Stands (m : Hall) (ls : List ℕ) : Type 0 where
 still : (m : Hall) (ls : List ℕ) → Stands m ls → Stands m (ls ++ [])
 still m ls h = record { sound = none-more m ls (h .sound); limit = h .limit }
 
-fire-stands : (f : ℕ × Stamp) (m : Hall) (ls : List ℕ) → Due m f → 190 ≤ left m → Stands m ls → Stands (fire (f .0) (f .1) m .hall) (ls ++ fire (f .0) (f .1) m .lines)
+pub fire-stands : (f : ℕ × Stamp) (m : Hall) (ls : List ℕ) → Due m f → 190 ≤ left m → Stands m ls → Stands (fire (f .0) (f .1) m .hall) (ls ++ fire (f .0) (f .1) m .lines)
 fire-stands f m ls d p h = record {
   sound = fire-sound (f .0) (f .1) m ls (d .slot) (queued-wanted m ls (h .sound) (f .0) (f .1) (d .queued)) (h .sound);
   limit = let w = fire-within (f .0) (f .1) m (d .slot) in let g = w .0 .most in omega arith }

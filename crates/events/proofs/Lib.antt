@@ -3,3 +3,5 @@ pub mod Tales
 pub mod Pairs
 pub mod Legs
 pub mod Machine
+pub mod Reports
+pub mod Changes

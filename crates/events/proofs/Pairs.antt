@@ -1,11 +1,9 @@
 -- Pairs of boxes on their paths are kinetic: meetings at side 0 and partings at side 1 are the turns of their overlap.
-use mathlib.Core.Path.{_≡_, refl, sym, ap, _∙_, subst}
+use mathlib.Core.Path.{_≡_, refl, sym, ap, _∙_}
 use mathlib.Core.Logic.{_⊎_, inl, inr}
 use mathlib.Core.Bool.{Bool, true, false, not}
-use Prim.Native.Nat.{ℕ, _*_, _≤_, _<_}
-use native.Mathlib.Omega.{arith}
 use Rattle.rules.specs.Fractions.{Fraction, Proper, Before}
-use Rattle.rules.specs.Stamps.{Stamp, at, just-after}
+use Rattle.rules.specs.Stamps.{at, just-after}
 use Rattle.rules.specs.Paths.{Axis, Path, on-every-axis}
 use Rattle.rules.specs.Boxes.{Box, Touch, Meets, Parts}
 use Rattle.rules.proofs.Stamped.{false-true}
@@ -16,7 +14,7 @@ use Rattle.geometry_laws.proofs.Flips.{between, after-zero}
 use Rattle.geometry_laws.proofs.Near.{one-of, near-dec, near-same, near-late}
 use Rattle.geometry_laws.proofs.Turns.{touch-near, near-touch, parting-told, parting-only, recently, recently-before, recently-proper, apart-lead}
 use Rattle.events.specs.Machine.{Sky, Pair, box-of}
-use Rattle.events.proofs.Points.{Point, Sooner, Upto, Same, During, on, past, upto-on, on-past, same-time}
+use Rattle.events.proofs.Points.{Point, Sooner, Upto, During, on, past, upto-on, on-past, same-time}
 use Rattle.events.proofs.Tales.{Kinetic, every, every-set}
 
 abbrev pub turning : Bool → (Fraction → Type 0) → Fraction → Type 0
@@ -69,10 +67,16 @@ module _ (p : Path) (b : Box) (q : Path) (d : Box) where
         go : (x : Bool) → c ≡ x → Meets (Touch p b q d) u
         go true g =
             absurd (false-true (sym (ap not g) ∙ sym e
-              ∙ every (λ a. near p b q d a (at u)) (λ _. true) (λ a. arrives-at a m u pu h (λ k v w. every-set (λ a. near p b q d a (k .stamp)) (sym (f k v w) ∙ g) a))))
-        go false g =
-            (all-touch u pu (e ∙ ap not g), (m .stamp .time, m .proper, at-after (m .stamp) u h,
-              λ r pr v w t. false-true (sym g ∙ f (on r pr) (from-on m r pr v) (inl w) ∙ touch-all r pr t)))
+            ∙ every (λ a. near p b q d a (at u)) (λ _. true) (λ a. arrives-at a m u pu h (λ k v w. every-set (λ a. near p b q d a (k .stamp)) (sym (f k v w) ∙ g) a))))
+        go false g = (
+          all-touch u pu (e ∙ ap not g),
+          (
+            m .stamp .time,
+            m .proper,
+            at-after (m .stamp) u h,
+            λ r pr v w t. false-true (sym g ∙ f (on r pr) (from-on m r pr v) (inl w) ∙ touch-all r pr t),
+          ),
+        )
 
     parts-wrong : Sooner m (past u pu) → During (λ k. c ≡ all-near k) m (past u pu) → Parts (Touch p b q d) u → all-near (past u pu) ≡ not c
     parts-wrong h f t =
@@ -87,10 +91,11 @@ module _ (p : Path) (b : Box) (q : Path) (d : Box) where
       where
         here : c ≡ all-near (on u pu)
         here = f (on u pu) (upto-on m u pu h) (on-past u pu)
+
         go : (x : Bool) → c ≡ x → Parts (Touch p b q d) u
         go false g =
             absurd (false-true (sym g ∙ here
-              ∙ every (λ a. near p b q d a (at u)) (λ _. true) (λ a. near-late p b q d a u (every-set (λ a. near p b q d a (just-after u)) (e ∙ ap not g) a))))
+            ∙ every (λ a. near p b q d a (at u)) (λ _. true) (λ a. near-late p b q d a u (every-set (λ a. near p b q d a (just-after u)) (e ∙ ap not g) a))))
         go true g = pick (one-of (λ a. Near p b q d a (just-after u)) (λ a. near-dec p b q d a (just-after u)))
           where
             pick : ((a : Axis) → Near p b q d a (just-after u)) ⊎ ((a : Axis) × (¬ (Near p b q d a (just-after u)))) → Parts (Touch p b q d) u
@@ -113,21 +118,25 @@ Turns y i k = turning (k .stamp .after) (Touches y i) (k .stamp .time)
 
 pub sky-kinetic : (y : Sky) → Kinetic (so y) (Turns y)
 sky-kinetic y = record {
-    same = λ i a j k s. near-same (y .path (i .lower)) (box-of y (i .lower)) (y .path (i .higher)) (box-of y (i .higher)) a (j .stamp) (k .stamp) (j .proper) (k .proper) (same-time j k s .0) (same-time j k s .1);
-    arrives = λ i a m n h e f. arrives i a m n (n .stamp .after) e h f;
-    stays-off = λ i a m n h e f. stays-off i a m n (n .stamp .after) e h f;
-    turn-wrong = λ i c m n h f t. turn-wrong i c m n (n .stamp .after) h f t;
-    wrong-turn = λ i c m n h f t. wrong-turn i c m n (n .stamp .after) h f t }
+  same = λ i a j k s. near-same (y .path (i .lower)) (box-of y (i .lower)) (y .path (i .higher)) (box-of y (i .higher)) a (j .stamp) (k .stamp) (j .proper) (k .proper) (same-time j k s .0) (same-time j k s .1);
+  arrives = λ i a m n h e f. arrives i a m n (n .stamp .after) e h f;
+  stays-off = λ i a m n h e f. stays-off i a m n (n .stamp .after) e h f;
+  turn-wrong = λ i c m n h f t. turn-wrong i c m n (n .stamp .after) h f t;
+  wrong-turn = λ i c m n h f t. wrong-turn i c m n (n .stamp .after) h f t;
+}
   where
     arrives : (i : Pair) (a : Axis) (m n : Point) (s : Bool) → s ≡ false → Sooner m (at-side n s) → During (λ k. so y i a k ≡ true) m (at-side n s) → so y i a (at-side n s) ≡ true
     arrives i a m n true e h f = absurd (false-true (sym e))
     arrives i a m n false e h f = arrives-at (y .path (i .lower)) (box-of y (i .lower)) (y .path (i .higher)) (box-of y (i .higher)) a m (n .stamp .time) (n .proper) h f
+
     stays-off : (i : Pair) (a : Axis) (m n : Point) (s : Bool) → s ≡ true → Sooner m (at-side n s) → During (λ k. so y i a k ≡ false) m (at-side n s) → so y i a (at-side n s) ≡ false
     stays-off i a m n false e h f = absurd (false-true e)
     stays-off i a m n true e h f = off-after (y .path (i .lower)) (box-of y (i .lower)) (y .path (i .higher)) (box-of y (i .higher)) a m (n .stamp .time) (n .proper) h f
+
     turn-wrong : (i : Pair) (c : Bool) (m n : Point) (s : Bool) → Sooner m (at-side n s) → During (λ k. c ≡ on-every-axis (λ a. so y i a k)) m (at-side n s) → turning s (Touches y i) (n .stamp .time) → on-every-axis (λ a. so y i a (at-side n s)) ≡ not c
     turn-wrong i c m n false h f t = meets-wrong (y .path (i .lower)) (box-of y (i .lower)) (y .path (i .higher)) (box-of y (i .higher)) c m (n .stamp .time) (n .proper) h f t
     turn-wrong i c m n true h f t = parts-wrong (y .path (i .lower)) (box-of y (i .lower)) (y .path (i .higher)) (box-of y (i .higher)) c m (n .stamp .time) (n .proper) h f t
+
     wrong-turn : (i : Pair) (c : Bool) (m n : Point) (s : Bool) → Sooner m (at-side n s) → During (λ k. c ≡ on-every-axis (λ a. so y i a k)) m (at-side n s) → on-every-axis (λ a. so y i a (at-side n s)) ≡ not c → turning s (Touches y i) (n .stamp .time)
     wrong-turn i c m n false h f t = wrong-meets (y .path (i .lower)) (box-of y (i .lower)) (y .path (i .higher)) (box-of y (i .higher)) c m (n .stamp .time) (n .proper) h f t
     wrong-turn i c m n true h f t = wrong-parts (y .path (i .lower)) (box-of y (i .lower)) (y .path (i .higher)) (box-of y (i .higher)) c m (n .stamp .time) (n .proper) h f t

@@ -1,10 +1,8 @@
 -- Moments whose time is one, in order.
-use mathlib.Core.Path.{_≡_, refl, sym, ap, _∙_, subst}
+use mathlib.Core.Path.{_≡_, refl}
 use mathlib.Core.Logic.{_⊎_, inl, inr}
-use mathlib.Core.Bool.{Bool, true, false}
-use Prim.Native.Nat.{ℕ, _+_, _*_, _≤_, _<_}
 use native.Mathlib.Omega.{arith}
-use Rattle.rules.specs.Fractions.{Fraction, Proper, Before, NotAfter, SameTime}
+use Rattle.rules.specs.Fractions.{Fraction, Proper, SameTime}
 use Rattle.rules.specs.Stamps.{Stamp, Earlier, NotEarlier, at, just-after}
 use Rattle.rules.proofs.Stamped.{asym, earlier-trans, earlier-dec, not-earlier-trans}
 use Rattle.geometry_laws.proofs.Moments.{at-once-time, not-between}

@@ -3,12 +3,12 @@ use mathlib.Core.Path.{_≡_, refl, sym, ap, _∙_, subst}
 use mathlib.Core.List.{List, [], _∷_, _++_, List·Memᴰ·head, List·Memᴰ·tail, List·Memᴰ·not-nil, List·Memᴰ·cases-cons}
 use mathlib.Core.Logic.{_⊎_, inl, inr}
 use mathlib.Core.Bool.{Bool, true, false, not, _&&_}
-use Prim.Native.Nat.{ℕ, _≤_, _<_}
+use Prim.Native.Nat.{ℕ, _≤_}
 use native.Mathlib.Omega.{arith}
 use native.Mathlib.Decide.{ℕ-discrete}
 use Rattle.rules.specs.Basics.{_∈_, InTurn}
-use Rattle.rules.specs.Fractions.{Fraction, Proper, Before, NotAfter, SameTime}
-use Rattle.rules.specs.Stamps.{Stamp, Earlier, NotEarlier, side}
+use Rattle.rules.specs.Fractions.{Before, NotAfter, SameTime}
+use Rattle.rules.specs.Stamps.{Stamp, Earlier, side}
 use Rattle.rules.specs.Paths.{Axis, X, Y, Z, on-every-axis}
 use Rattle.rules.specs.Pages.{News, met, parted, Report}
 use Rattle.rules.proofs.Stamped.{false-true, not-earlier-out}
@@ -34,8 +34,10 @@ axis-dec a b = go a b
     code X = 0
     code Y = 1
     code Z = 2
+
     apart : (a b : Axis) → (code a ≡ code b → ⊥) → a ≡ b → ⊥
     apart a b f e = f (ap code e)
+
     go : (a b : Axis) → Dec (a ≡ b)
     go X X = yes refl
     go X Y = no (apart X Y (λ e. omega arith))
@@ -156,9 +158,10 @@ module _ (In : Pair → Type 0) (so : Pair → Axis → Point → Bool) (Turn : 
       ((i : Pair) → In i → (k : Point) → Owed c i n k → Owed b i m k) → ((i : Pair) → In i → (k : Point) → Owed b i m k → Owed c i n k) →
       Tale t n c rs → Tale t m b rs
   retold t m n b c rs back forth tale = record {
-      true-told = λ r h. let e = tale .true-told r h in record { pair = e .pair; when = e .when; is = e .is; inside = e .inside; upto = e .upto; owed = back (e .pair) (e .inside) (e .when) (e .owed) };
-      all-told = λ i p k o u. tale .all-told i p k (forth i p k o) u;
-      ordered = tale .ordered }
+    true-told = λ r h. let e = tale .true-told r h in record { pair = e .pair; when = e .when; is = e .is; inside = e .inside; upto = e .upto; owed = back (e .pair) (e .inside) (e .when) (e .owed) };
+    all-told = λ i p k o u. tale .all-told i p k (forth i p k o) u;
+    ordered = tale .ordered;
+  }
 
   pub right-all : (b : Pair → Axis → Bool) (k : Point) (i : Pair) → In i → Right b k → on-every-axis (b i) ≡ on-every-axis (λ a. so i a k)
   right-all b k i p r = every (b i) (λ a. so i a k) (r i p)
@@ -179,7 +182,7 @@ module _ (In : Pair → Type 0) (so : Pair → Axis → Point → Bool) (Turn : 
         nothing : (i : Pair) → In i → (k : Point) → Owed b i m k → Upto k t → ⊥
         nothing i p k (inl x) u =
             not-itself (on-every-axis (b i)) (right-all b k i p (r k (sooner-upto m k (x .0)) u)
-              ∙ K .turn-wrong i (on-every-axis (b i)) m k (x .0) (λ j v w. right-all b j i p (r j v (upto-trans j k t (sooner-upto j k w) u))) (x .1))
+            ∙ K .turn-wrong i (on-every-axis (b i)) m k (x .0) (λ j v w. right-all b j i p (r j v (upto-trans j k t (sooner-upto j k w) u))) (x .1))
         nothing i p k (inr x) u = not-itself (on-every-axis (b i)) (right-all b k i p (r k (x .0 .0) u) ∙ x .1)
 
     -- ---- time goes on, and no bit is turned
@@ -242,6 +245,7 @@ module _ (In : Pair → Type 0) (so : Pair → Axis → Point → Bool) (Turn : 
         where
           else : (j ≡ i → d ≡ a → ⊥) → so j d m ≡ not (m .stamp .after)
           else n = h j q d (sym (others j q d n) ∙ e)
+
           go : Dec (j ≡ i) → Dec (d ≡ a) → so j d m ≡ not (m .stamp .after)
           go (yes x) (yes y) = (λ k. so (x k) (y k) m) ∙ w ∙ sym f ∙ sym (λ k. c (x k) (y k)) ∙ e
           go (no x) y = else (λ z _. x z)
@@ -253,8 +257,10 @@ module _ (In : Pair → Type 0) (so : Pair → Axis → Point → Bool) (Turn : 
         where
           set : b i a ≡ true
           set = every-set (b i) x a
+
           off : so i a m ≡ false
           off = w ∙ ap not set
+
           late : (s : Bool) → m .stamp .after ≡ s → m .stamp .after ≡ true
           late true g = g
           late false g = absurd (false-true (sym off ∙ h i p a (set ∙ sym (ap not g)) ∙ ap not g))
@@ -262,13 +268,17 @@ module _ (In : Pair → Type 0) (so : Pair → Axis → Point → Bool) (Turn : 
         where
           unset : b i a ≡ false
           unset = sym (not-not (b i a)) ∙ ap not (sym f ∙ every-set (c i) y a)
+
           on : so i a m ≡ true
           on = w ∙ ap not unset
+
           side-0 : (s : Bool) → m .stamp .after ≡ s → m .stamp .after ≡ false
           side-0 false g = g
           side-0 true g = absurd (false-true (sym (ap not g) ∙ sym (h i p a (unset ∙ sym (ap not g))) ∙ on))
+
           early : m .stamp .after ≡ false
           early = side-0 (m .stamp .after) refl
+
           all : (d : Axis) → so i d m ≡ true
           all d = go (axis-dec d a)
             where
@@ -289,64 +299,80 @@ module _ (In : Pair → Type 0) (so : Pair → Axis → Point → Bool) (Turn : 
 
         loud-flip : (e : Bool) → on-every-axis (b i) ≡ e → on-every-axis (c i) ≡ not e → Tale t m b (report i (m .stamp) ∷ rs)
         loud-flip e x y = record {
-            true-told = λ r q. told r (List·Memᴰ·cases-cons q);
-            all-told = λ j q k o v. owed-told j q k (pair-dec j i) o v;
-            ordered = ((λ r q. in-order r (tale .true-told r q)), tale .ordered) }
+          true-told = λ r q. told r (List·Memᴰ·cases-cons q);
+          all-told = λ j q k o v. owed-told j q k (pair-dec j i) o v;
+          ordered = ((λ r q. in-order r (tale .true-told r q)), tale .ordered);
+        }
           where
             right : on-every-axis (λ d. so i d m) ≡ on-every-axis (c i)
             right = right-now e x y .0 ∙ sym y
+
             wrong : on-every-axis (λ d. so i d m) ≡ not (on-every-axis (b i))
             wrong = right-now e x y .0 ∙ sym (ap not x)
+
             at-same : (k : Point) → Same m k → on-every-axis (λ d. so i d m) ≡ on-every-axis (λ d. so i d k)
             at-same k s = every (λ d. so i d m) (λ d. so i d k) (λ d. K .same i d m k s)
+
             -- the turned pair owes nothing more at m
             settled : (k : Point) → Same m k → on-every-axis (λ d. so i d k) ≡ not (on-every-axis (c i)) → ⊥
             settled k s z = not-itself (on-every-axis (c i)) (sym right ∙ at-same k s ∙ z)
+
             back : (j : Pair) → In j → (k : Point) → Dec (j ≡ i) → Owed c j m k → Owed b j m k
             back j q k (no n) o = owed-like c b m j k (sym (same-others j q n)) o
             back j q k (yes n) (inl z) = inl z
             back j q k (yes n) (inr z) = absurd (settled k (z .0) (subst (λ (j : Pair). on-every-axis (λ d. so j d k) ≡ not (on-every-axis (c j))) n (z .1)))
+
             told : (r : Report) → (r ≡ report i (m .stamp)) ⊎ (r ∈ rs) → Entry t m b r
             told r (inl z) = record { pair = i; when = m; is = z; inside = p; upto = u; owed = inr ((upto-self m, upto-self m), wrong) }
             told r (inr z) =
                 let g = tale .true-told r z in
                 record { pair = g .pair; when = g .when; is = g .is; inside = g .inside; upto = g .upto; owed = back (g .pair) (g .inside) (g .when) (pair-dec (g .pair) i) (g .owed) }
+
             later : (j : Pair) (k : Point) → Told j (k .stamp) rs → Told j (k .stamp) (report i (m .stamp) ∷ rs)
             later j k z = (z .0, List·Memᴰ·tail (z .1), z .2, z .3)
+
             owed-told : (j : Pair) → In j → (k : Point) → Dec (j ≡ i) → Owed b j m k → Upto k t → Told j (k .stamp) (report i (m .stamp) ∷ rs)
             owed-told j q k (no n) o v = later j k (tale .all-told j q k (owed-like b c m j k (same-others j q n) o) v)
             owed-told j q k (yes n) (inl z) v = later j k (tale .all-told j q k (inl z) v)
             owed-told j q k (yes n) (inr z) v =
                 let g = same-time m k (z .0) in
                 (report i (m .stamp), List·Memᴰ·head refl, (λ l. news-at (g .1 l) (sym n l)), g .0)
+
             upto-when : (r : Report) (g : Entry t m c r) → Upto m (g .when)
             upto-when r g = go (g .owed)
               where
                 go : Owed c (g .pair) m (g .when) → Upto m (g .when)
                 go (inl z) = sooner-upto m (g .when) (z .0)
                 go (inr z) = z .0 .0
+
             in-order : (r : Report) → Entry t m c r → InOrder (report i (m .stamp)) r
             in-order r g = subst (λ (r : Report). InOrder (report i (m .stamp)) r) (sym (g .is)) (record { times = by-time out .0; meetings = λ s q. at-parting (g .when .stamp .after) (g .pair) (by-time out .1 s (parting-at (m .stamp .after) i q)); once = once })
               where
                 out : (Before (m .stamp .time) (g .when .stamp .time)) ⊎ (SameTime (m .stamp .time) (g .when .stamp .time) × (side (m .stamp .after) ≤ side (g .when .stamp .after)))
                 out = not-earlier-out (m .stamp) (g .when .stamp) (upto-when r g)
+
                 late-last : (x y : Bool) → side x ≤ side y → x ≡ true → y ≡ true
                 late-last x true h e = refl
                 late-last true false h e = absurd (omega arith)
                 late-last false false h e = e
+
                 by-time : (Before (m .stamp .time) (g .when .stamp .time)) ⊎ (SameTime (m .stamp .time) (g .when .stamp .time) × (side (m .stamp .after) ≤ side (g .when .stamp .after))) →
                     NotAfter (m .stamp .time) (g .when .stamp .time) × (SameTime (m .stamp .time) (g .when .stamp .time) → m .stamp .after ≡ true → g .when .stamp .after ≡ true)
                 by-time (inl z) = (omega arith, λ s _. absurd (omega (arith, s)))
                 by-time (inr z) = (omega (arith, z .0), λ _ l. late-last (m .stamp .after) (g .when .stamp .after) (z .1) l)
+
                 once : ¬ (report i (m .stamp) ≡ report (g .pair) (g .when .stamp))
                 once z = go (g .owed)
                   where
                     news-same : news-at (m .stamp .after) i ≡ news-at (g .when .stamp .after) (g .pair)
                     news-same = ap (λ (r : Report). r .news) z
+
                     pairs : g .pair ≡ i
                     pairs = sym (pair-at (g .when .stamp .after) (g .pair)) ∙ ap pair-in (sym news-same) ∙ pair-at (m .stamp .after) i
+
                     stamps : g .when .stamp ≡ m .stamp
                     stamps = λ l. record { time = ap (λ (r : Report). r .time) (sym z) l; after = (sym (side-at (g .when .stamp .after) (g .pair)) ∙ ap side-in (sym news-same) ∙ side-at (m .stamp .after) i) l }
+
                     go : Owed c (g .pair) m (g .when) → ⊥
                     go (inl l) = upto-self m (subst (λ (k : Stamp). Earlier (m .stamp) k) stamps (l .0))
                     go (inr l) = settled (g .when) (l .0) (subst (λ (j : Pair). on-every-axis (λ d. so j d (g .when)) ≡ not (on-every-axis (c j))) pairs (l .1))
@@ -357,6 +383,7 @@ module _ (In : Pair → Type 0) (so : Pair → Axis → Point → Bool) (Turn : 
           where
             at-side : (e : Bool) → m .stamp .after ≡ e → Tale t m b (report i (m .stamp) ∷ rs) → Tale t m b (record { time = m .stamp .time; news = news-at e i } ∷ rs)
             at-side e z q = subst (λ (e : Bool). Tale t m b (record { time = m .stamp .time; news = news-at e i } ∷ rs)) z q
+
             go : (x y : Bool) → on-every-axis (b i) ≡ x → on-every-axis (c i) ≡ y → Tale t m b (stepped-with (m .stamp .time) (news x y (i .lower) (i .higher)) ++ rs)
             go true true e g = quiet-flip (e ∙ sym g)
             go false false e g = quiet-flip (e ∙ sym g)

@@ -3,6 +3,7 @@ use mathlib.Core.Path.{_≡_}
 use mathlib.Core.Bool.{true}
 use mathlib.Core.Logic.{_⊎_}
 use Prim.Native.Nat.{ℕ}
+use Rattle.std.specs.declared.option.Option.the-variants.{None}
 use Rattle.rules.specs.Fractions.{Fraction, Proper}
 use Rattle.rules.specs.Stamps.{at}
 use Rattle.rules.specs.Paths.{Axis}
@@ -35,3 +36,7 @@ pub record Changed (y y' : Sky) (t : Fraction) (s s' : Core) : Type 0 where
 
 abbrev pub Changes-rest : Type 0
 Changes-rest = (y y' : Sky) (t : Fraction) → Proper t → (s s' : Core) → Rested y t s → Changed y y' t s s' → Rested y' t s'
+
+-- With no craft in the air it stands at any time.
+abbrev pub Empty-rests : Type 0
+Empty-rests = (y : Sky) → ((c : ℕ) → y .box c ≡ None) → (t : Fraction) (s : Core) → Rested y t s

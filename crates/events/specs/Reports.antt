@@ -33,12 +33,12 @@ pub record Reported (y : Sky) (s t : Fraction) (rs : List Report) : Type 0 where
 
 abbrev pub Reports-hold : Type 0
 Reports-hold =
-  (w : ℕ) (y : Sky) → Lawful w y → (s t : Fraction) → Proper s → Proper t → NotAfter s t → NotAfter t (tick 50000) →
-  (c d : Core) (rs : List Report) → Rested y s c → Runs y t d c rs → Quiet y d t → Reported y s t rs × Rested y t d
+    (w : ℕ) (y : Sky) → Lawful w y → (s t : Fraction) → Proper s → Proper t → NotAfter s t → NotAfter t (tick 50000) →
+    (c d : Core) (rs : List Report) → Rested y s c → Runs y t d c rs → Quiet y d t → Reported y s t rs × Rested y t d
 
 -- At a quiet clock the three bits of a pair tell whether its boxes touch.
 abbrev pub Bits-tell : Type 0
 Bits-tell =
-  (w : ℕ) (y : Sky) → Lawful w y → (t : Fraction) → Proper t → NotAfter t (tick 50000) → (s : Core) → Rested y t s →
-  (c d : ℕ) (k l : Box) → c < d → y .box c ≡ Some k → y .box d ≡ Some l →
-  Decides (together s (record { lower = c; higher = d })) (Touch (y .path c) k (y .path d) l t)
+    (w : ℕ) (y : Sky) → Lawful w y → (t : Fraction) → Proper t → NotAfter t (tick 50000) → (s : Core) → Rested y t s →
+    (c d : ℕ) (k l : Box) → c < d → y .box c ≡ Some k → y .box d ≡ Some l →
+    Decides (together s (record { lower = c; higher = d })) (Touch (y .path c) k (y .path d) l t)

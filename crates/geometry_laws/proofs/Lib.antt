@@ -3,6 +3,7 @@ pub mod Behind
 pub mod Lists
 pub mod Settled
 pub mod Certificates
+pub mod Quick
 pub mod Moments
 pub mod Soon
 pub mod Lately
