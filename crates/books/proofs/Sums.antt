@@ -15,6 +15,7 @@ use Rattle.rules.specs.Fractions.{Fraction, tick, is-before, whole}
 use Rattle.rules.specs.Paths.{Axis, Path, Line, Kept, sum, speed-at, line-at, leg, first-after, min-with}
 use Rattle.plans.specs.Lines.{line-of, plus}
 use Rattle.plans.proofs.Flown.{of-places, line-plus}
+use Rattle.books.specs.Breaks.{earlier}
 use Rattle.books.specs.Right.{Right}
 
 -- the size of a sum, where each part leaves room for one level more
@@ -123,11 +124,6 @@ kept-right l s p h f = record {
     room m x k = let k′ : x ≤ m = omega arith in mul-le-mul k′ h
 
 -- BREAKS
-
--- the earlier of two breaks, where there are any
-abbrev pub earlier : Option ℕ → Option ℕ → Option ℕ
-earlier None p = p
-earlier (Some k) p = Some (min-with k p)
 
 min-earlier : (k : ℕ) (o p : Option ℕ) → min-with k (earlier o p) ≡ min-with (min-with k o) p
 min-earlier k None p = refl

@@ -1,4 +1,5 @@
 pub mod Told
+pub mod Breaks
 pub mod Right
 pub mod Laws
 pub mod Routes

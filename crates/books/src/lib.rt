@@ -5,6 +5,4 @@ pub mod plain;
 mod routes;
 
 pub use book::FlightBook;
-pub use plain::ItineraryBook;
 pub use plain::PlanBook;
-pub use plain::SingleLegBook;

@@ -1,8 +1,7 @@
 //! Books of plans with no levels: the single-leg book and the itinerary book.
 ghost use mathlib.Core.Path.{_≡_};
 ghost use Rattle.rules.specs.Books.{empty-book};
-ghost use Rattle.books.specs.Routes.{routes-of};
-ghost use Rattle.books.specs.Plain.{plain-book};
+ghost use Rattle.books.specs.Plain.{plan-book-of};
 
 use crate::book::FlightBook;
 use crate::routes::Routes;
@@ -12,29 +11,31 @@ use plans::Route;
 use times::Refusal;
 use times::Time;
 
-/// A book of 64 craft with no levels and scale 1, in which a plan may have up to LIMIT legs.
+/// A book of 64 craft with no levels and scale 1: the single-leg book, or the itinerary book.
 #[derive(Drop)]
-pub struct PlanBook<const LIMIT: u8> {
+pub struct PlanBook {
     routes: Routes,
+    limit: u8,
 }
 
-/// The book for plans of one leg.
-pub type SingleLegBook = PlanBook<1>;
-
-/// The book for plans of up to eight legs.
-pub type ItineraryBook = PlanBook<8>;
-
-impl<const LIMIT: u8> PlanBook<LIMIT> {
-    /// A book in which every craft stands.
-    pub fn new() -> PlanBook<LIMIT>
-        ensures { λ r. ⌜ plain-book (routes-of (r .routes)) LIMIT ≡ empty-book LIMIT ⌝ }
+impl PlanBook {
+    /// The single-leg book: plans have one leg. Every craft stands.
+    pub fn single_leg() -> PlanBook
+        ensures { λ r. ⌜ plan-book-of r ≡ empty-book 1 ⌝ }
     {
-        PlanBook { routes: Routes::new() }
+        PlanBook { routes: Routes::new(), limit: 1 }
+    }
+
+    /// The itinerary book: plans have up to eight legs. Every craft stands.
+    pub fn itinerary() -> PlanBook
+        ensures { λ r. ⌜ plan-book-of r ≡ empty-book 8 ⌝ }
+    {
+        PlanBook { routes: Routes::new(), limit: 8 }
     }
 }
 
-pub impl<const LIMIT: u8> FlightBook for PlanBook<LIMIT> as PlanFlights {
-    ghost meaning = { λ b. plain-book (routes-of (b .routes)) LIMIT };
+pub impl FlightBook for PlanBook as PlanFlights {
+    ghost meaning = { plan-book-of };
 
     fn levels(&self) -> u8 {
         0
@@ -45,7 +46,7 @@ pub impl<const LIMIT: u8> FlightBook for PlanBook<LIMIT> as PlanFlights {
     }
 
     fn leg_limit(&self) -> u8 {
-        LIMIT
+        self.limit
     }
 
     fn leg(&self, craft: u8, t: Time) -> Result<LegAnswer, Refusal> {
@@ -69,7 +70,7 @@ pub impl<const LIMIT: u8> FlightBook for PlanBook<LIMIT> as PlanFlights {
         let Ok(route) = Route::new(plan) else {
             return Err(Refusal::PlanRules);
         };
-        if plan.count > LIMIT {
+        if plan.count > self.limit {
             return Err(Refusal::LegLimit);
         }
         self.routes.set(craft, route);
