@@ -1,4 +1,6 @@
 //! A heap of slots with an index.
+ghost use mathlib.Core.Path.{_≡_};
+ghost use lib.ListN.{length};
 use queues::SLOTS;
 
 mod gaps;
@@ -13,4 +15,5 @@ pub(crate) struct Tree {
     pub(crate) heap: [u16; SLOTS],
     pub(crate) place: [u16; SLOTS],
     pub(crate) len: u16,
+    ghost size: { length place ≡ 12352 },
 }
