@@ -26,7 +26,9 @@ use Rattle.accounts.proofs.Frames.{craft-below, below-craft}
 use Rattle.telling.proofs.Places.{slot-swap, slot-leg}
 use Rattle.telling.proofs.Effects.{Cell, cell, Written, each-keeps, each-written, failing, fresh}
 use Rattle.telling.proofs.Moved.{Moved, Other, others-out, others-in, cell-pair, cell-apart, leg-apart, leg-now, craft-then, enter-amid, enter-moved, leave-amid, leave-moved}
-use Rattle.telling.proofs.Skies.{box-in, sky-of, core-of, flies-is, two, certified, read-right, fresh-swap, SlowLegs, failing-usual, usual-inside, break-usual, leg-slow, Live, Good, moved-live, moved-neat}
+use Rattle.certified.specs.Histories.{sky-of, core-of}
+use Rattle.accounts.specs.Laws.{box-in}
+use Rattle.telling.proofs.Skies.{flies-is, two, certified, read-right, fresh-swap, SlowLegs, failing-usual, usual-inside, break-usual, leg-slow, Live, Good, moved-live, moved-neat}
 use Rattle.telling.proofs.Firing.{flying, in-flight, pair-low}
 use Rattle.telling.proofs.Steps.{KeptPaths, kept-on}
 

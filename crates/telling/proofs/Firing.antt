@@ -31,7 +31,9 @@ use Rattle.accounts.proofs.Puts.{put-here, put-other, same-or-not}
 use Rattle.telling.proofs.Places.{slot-swap, slot-low, slot-one, slot-axis, slot-lower, slot-higher, slot-leg}
 use Rattle.telling.proofs.Effects.{Cell, cell, failing, renewed}
 use Rattle.telling.proofs.Moved.{Moved, Other, others-out, others-in, cell-pair, cell-apart, leg-apart, craft-anew, still-in, leg-fired, leg-amidst, leg-moved, bit-fired, flipped-cell, bit-fired-here, bit-fired-other}
-use Rattle.telling.proofs.Skies.{box-in, sky-in, sky-of, core-of, flies-is, two, certified, failing-swap, SlowLegs, failing-usual, usual-inside, break-usual, leg-slow, Live, Good, moved-live, moved-neat}
+use Rattle.certified.specs.Histories.{sky-of, core-of}
+use Rattle.accounts.specs.Laws.{box-in}
+use Rattle.telling.proofs.Skies.{flies-is, two, certified, failing-swap, SlowLegs, failing-usual, usual-inside, break-usual, leg-slow, Live, Good, moved-live, moved-neat}
 
 pub flying : (m : Hall) (c : ℕ) → flies (sky-of m) c ≡ true → in-hall m c ≡ true
 flying m c f = sym (flies-is (m .craft c)) ∙ f

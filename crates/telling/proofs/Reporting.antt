@@ -24,10 +24,12 @@ use Rattle.events.specs.Machine.{Sky}
 use Rattle.events.specs.Reports.{Reported, Reports-hold, Bits-tell}
 use Rattle.events.specs.Reports as machine
 use Rattle.events.specs.Changes.{Changes-rest}
-use Rattle.telling.proofs.Skies.{sky-of, Good}
+use Rattle.accounts.proofs.Agrees.{histories-agree}
+use Rattle.certified.specs.Histories.{sky-of}
+use Rattle.telling.proofs.Skies.{Good}
 use Rattle.telling.proofs.Steps.{Goes, Gone, goes-one, goes-gone, KeptPaths, kept-on, AllPlain, plain-fit, plain-in}
 use Rattle.telling.proofs.Resting.{Resting, Paths-stay}
-use Rattle.telling.proofs.Ways.{Ran-on, run-goes, answer-reports, Way, way-at, way-call, clock-told}
+use Rattle.telling.proofs.Ways.{Ran-on, run-goes, answer-reports, Way, way-at, way-call}
 use Rattle.telling.proofs.History.{none-left, Inv, inv-gone, inv-call, inv-opened, way-ends, way-begins}
 use Rattle.telling.proofs.Touches.{now, told-sky, inv, sky-is, at-rest}
 
@@ -54,41 +56,41 @@ abbrev pub PageIs : List ℕ → Type 0
 PageIs page = (rs : List Report) × (page-read page ≡ Some rs) × (page ≡ page-of rs)
 
 module _ (w : ℕ) (w8 : w ≤ 8) (hold : Reports-hold) (rest : Changes-rest) (stay : Paths-stay) where
-  run-page : (b : Book) (f : ℕ → Option Box) (z : State) (i : Inv w w8 hold b f z) (g : Fraction) (slip page : ℕ) → PageIs (run g slip page (z .hall) .page)
-  run-page b f z i g slip page =
-      let q = inv-gone w w8 hold b f z i .1 in
+  run-page : (z : State) (i : Inv w w8 hold z) (g : Fraction) (slip page : ℕ) → PageIs (run g slip page (z .hall) .page)
+  run-page z i g slip page =
+      let q = inv-gone w w8 hold z i .1 in
       let kz = kept-on w w8 (i .from) (z .hall) (q .same-book) (i .resting .kept) in
       let r = run-goes w w8 (suc (left (z .hall))) g slip page (z .hall) (q .good) kz in
       let p = goes-gone w w8 g (run g slip page (z .hall) .hall) (z .hall) (r .told) (q .good) kz (r .goes) in
       (r .told, ap page-read (r .page) ∙ back (r .told) (plain-fit (r .told) (p .plain)), r .page)
 
-  page-carried : (b : Book) (f : ℕ → Option Box) (z : State) → Inv w w8 hold b f z → (call : Call) → PageIs (carried-out call z .answer .page)
-  page-carried b f z i (changing t x slip) = ([], refl, refl)
-  page-carried b f z i (setting t n d) = ([], refl, refl)
-  page-carried b f z i (stepping t g slip) = by (next-due g (z .hall))
+  page-carried : (z : State) → Inv w w8 hold z → (call : Call) → PageIs (carried-out call z .answer .page)
+  page-carried z i (changing t x slip) = ([], refl, refl)
+  page-carried z i (setting t n d) = ([], refl, refl)
+  page-carried z i (stepping t g slip) = by (next-due g (z .hall))
     where
       by : (o : Option (ℕ × Stamp)) → PageIs (stepping-to o z .answer .page)
       by None = ([], refl, refl)
       by (Some f) = ([], refl, refl)
-  page-carried b f z i (running t g slip page) = run-page b f z i g slip page
-  page-carried b f z i (resting t g) = ([], refl, refl)
-  page-carried b f z i (touching t c d) = ([], refl, refl)
-  page-carried b f z i (listing t room) = ([], refl, refl)
-  page-carried b f z i (asking s) = ([], refl, refl)
+  page-carried z i (running t g slip page) = run-page z i g slip page
+  page-carried z i (resting t g) = ([], refl, refl)
+  page-carried z i (touching t c d) = ([], refl, refl)
+  page-carried z i (listing t room) = ([], refl, refl)
+  page-carried z i (asking s) = ([], refl, refl)
 
-  page-call : (b : Book) (f : ℕ → Option Box) (z : State) → Inv w w8 hold b f z → (call : Call) → PageIs (perform call z .answer .page)
-  page-call b f z i call = by (refusal call z)
+  page-call : (z : State) → Inv w w8 hold z → (call : Call) → PageIs (perform call z .answer .page)
+  page-call z i call = by (refusal call z)
     where
       by : (o : Option ℕ) → PageIs (unless o call z .answer .page)
-      by None = page-carried b f z i call
+      by None = page-carried z i call
       by (Some n) = ([], refl, refl)
 
-  page-calls : (calls : List Call) (b : Book) (f : ℕ → Option Box) (z : State) → Inv w w8 hold b f z → (e : Event) → e ∈ events calls z → PageIs (e .answer .page)
-  page-calls [] b f z i e p = absurd (List·Memᴰ·not-nil p)
-  page-calls (c ∷ cs) b f z i e p = by (List·Memᴰ·cases-cons p) (λ q. page-calls cs _ _ (perform c z .state) (inv-call w w8 hold rest stay b f z i c) e q)
+  page-calls : (calls : List Call) (z : State) → Inv w w8 hold z → (e : Event) → e ∈ events calls z → PageIs (e .answer .page)
+  page-calls [] z i e p = absurd (List·Memᴰ·not-nil p)
+  page-calls (c ∷ cs) z i e p = by (List·Memᴰ·cases-cons p) (λ q. page-calls cs (perform c z .state) (inv-call w w8 hold rest stay z i c) e q)
     where
       by : (e ≡ record { call = c; answer = perform c z .answer }) ⊎ (e ∈ events cs (perform c z .state)) → (e ∈ events cs (perform c z .state) → PageIs (e .answer .page)) → PageIs (e .answer .page)
-      by (inl q) go = subst (λ (a : Answer). PageIs (a .page)) (sym (ap (λ (e : Event). e .answer) q)) (page-call b f z i c)
+      by (inl q) go = subst (λ (a : Answer). PageIs (a .page)) (sym (ap (λ (e : Event). e .answer) q)) (page-call z i c)
       by (inr q) go = go q
 
 module _ (hold : Reports-hold) (bits : Bits-tell) (rest : Changes-rest) (stay : Paths-stay) (b : Book) (lawful : Lawful b) (small : b .scale ≤ 8) (calls : List Call) where
@@ -118,10 +120,10 @@ module _ (hold : Reports-hold) (bits : Bits-tell) (rest : Changes-rest) (stay : 
     way-on =
         let r = rest-now in
         let v = way-begins (b .scale) small hold s (r .0) (here .hall) (r .1) in
-        let c : here .clock ≡ quiet s = sym (clock-told calls (opened b)) ∙ on .starts in
+        let c : here .clock ≡ quiet s = sym (histories-agree b calls .clock) ∙ on .starts in
         let u = way-calls (b .scale) small s (here .hall) (r .1 .good) (r .1 .kept) more here [] (on .unchanged) (way-at (b .scale) small s (here .hall) (r .1 .good) (r .1 .kept) [] (quiet s) (here .clock) (here .hall) (sym c) v) in
         way-at (b .scale) small s (here .hall) (r .1 .good) (r .1 .kept) (reports (further b calls more)) (after more here .clock) (quiet t) end
-            (ap (λ (z : State). z .clock) (sym (after-join calls more (opened b))) ∙ sym (clock-told (calls ++ more) (opened b)) ∙ on .stops) u
+            (ap (λ (z : State). z .clock) (sym (after-join calls more (opened b))) ∙ sym (histories-agree b (calls ++ more) .clock) ∙ on .stops) u
 
     pub reported : Reported told s t (reports (further b calls more))
     reported = subst (λ (y : Sky). Reported y s t (reports (further b calls more))) (sky-is hold bits rest stay b lawful small calls)
@@ -136,4 +138,4 @@ module _ (hold : Reports-hold) (bits : Bits-tell) (rest : Changes-rest) (stay : 
       all-told = λ more s t on w u p h. reported more s t on .all-told w u p (unhappens s t w u h);
       ordered = λ more s t on. reported more s t on .ordered;
       same = λ more other s t on an. goes-one t (end more s t on) (end other s t an) (here .hall) (reports (further b calls more)) (reports (further b calls other)) (way-on more s t on .3) (way-on other s t an .3) (way-on more s t on .2) (way-on other s t an .2);
-      pages = page-calls (b .scale) small hold rest stay calls b (λ _. None) (opened b) (inv-opened (b .scale) small hold b (lawful .paths)) }
+      pages = page-calls (b .scale) small hold rest stay calls (opened b) (inv-opened (b .scale) small hold b (lawful .paths)) }

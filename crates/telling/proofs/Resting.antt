@@ -23,7 +23,9 @@ use Rattle.accounts.proofs.Puts.{put-here, put-other, same-or-not, those-in, in
 use Rattle.accounts.proofs.Frames.{craft-below, below-craft}
 use Rattle.telling.proofs.Effects.{Written, each-keeps, each-written}
 use Rattle.telling.proofs.Moved.{leg-now, enter-amid, leave-amid}
-use Rattle.telling.proofs.Skies.{box-in, sky-of, core-of, Good}
+use Rattle.certified.specs.Histories.{sky-of, core-of}
+use Rattle.accounts.specs.Laws.{box-in}
+use Rattle.telling.proofs.Skies.{Good}
 use Rattle.telling.proofs.Firing.{flying}
 use Rattle.telling.proofs.Steps.{KeptPaths, kept-on}
 use Rattle.telling.proofs.Changing.{enter-good, enter-changed, leave-good, leave-changed}

@@ -1,4 +1,4 @@
--- The hall as the machine of certificates has it, and what always holds of its slots.
+-- The hall's certificates are the machine's, and what always holds of its slots.
 use mathlib.Core.Bool.{Bool, true, false, cond, not, _&&_}
 use mathlib.Core.List.{List, [], _∷_, List·Memᴰ·head, List·Memᴰ·tail}
 use mathlib.Core.Logic.{_⊎_, inl, inr}
@@ -25,27 +25,12 @@ use Rattle.geometry_laws.specs.Certificates.{Slow}
 use Rattle.geometry_laws.proofs.Certificates.{certificates-right, certificates-usual}
 use Rattle.events.specs.Machine.{Sky, flies, box-of, Pair, In, Core, Certified}
 use Rattle.events.specs.Machine as machine
+use Rattle.certified.specs.Histories.{sky-of, core-of}
+use Rattle.accounts.specs.Laws.{box-in}
 use Rattle.accounts.proofs.Puts.{put-here, put-other, same-or-not}
 use Rattle.telling.proofs.Places.{slot-swap, slot-low, slot-leg, in-order}
 use Rattle.telling.proofs.Effects.{Cell, cell, Wrote, ends-in, failing, overlapping, fresh}
 use Rattle.telling.proofs.Moved.{Moved, Other, others-out, others-in}
-
-abbrev pub box-in : Option Craft → Option Box
-box-in None = None
-box-in (Some x) = Some (x .box)
-
-abbrev pub sky-in : Book → (ℕ → Option Craft) → Sky
-sky-in b cr = record { box = λ c. box-in (cr c); path = λ c. path b c }
-
-abbrev pub sky-of : Hall → Sky
-sky-of m = sky-in (m .book) (m .craft)
-
-abbrev pub core-of : Hall → Core
-core-of m = record {
-  leg = λ c a. craft-of c m .leg a;
-  turn = λ c. m .queue (leg-slot c);
-  bit = λ i a. m .bit (slot a (i .lower) (i .higher));
-  fails = λ i a. m .queue (slot a (i .lower) (i .higher)) }
 
 pub flies-is : (o : Option Craft) → isSome (box-in o) ≡ isSome o
 flies-is None = refl

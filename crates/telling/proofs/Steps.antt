@@ -28,7 +28,8 @@ use Rattle.events.specs.Machine.{Sky, Core, None-before, Quiet, Fires, bit-fire
 use Rattle.events.specs.Machine as machine
 use Rattle.telling.proofs.Places.{slot-low, slot-lower, slot-higher}
 use Rattle.telling.proofs.Moved.{leg-amidst}
-use Rattle.telling.proofs.Skies.{sky-of, core-of, two, Live, Good}
+use Rattle.certified.specs.Histories.{sky-of, core-of}
+use Rattle.telling.proofs.Skies.{two, Live, Good}
 use Rattle.telling.proofs.Firing.{bit-flips, bit-good, leg-sky, leg-rereads, leg-good}
 
 -- ---- what is due

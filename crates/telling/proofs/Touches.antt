@@ -26,12 +26,15 @@ use Rattle.model.specs.Statement.{story, next-answer, OfPair, TouchAt, Touching
 use Rattle.events.specs.Machine.{Sky, Core, Rested}
 use Rattle.events.specs.Reports.{Reports-hold, Bits-tell}
 use Rattle.events.specs.Changes.{Changes-rest}
+use Rattle.accounts.proofs.Agrees.{histories-agree}
 use Rattle.accounts.proofs.Puts.{those-in, in-those, turn-append, turn-those, turn-map, turn-below}
 use Rattle.accounts.proofs.Frames.{craft-below, below-craft}
 use Rattle.telling.proofs.Places.{slot-swap, in-order}
-use Rattle.telling.proofs.Skies.{box-in, sky-of, core-of, usual-inside}
+use Rattle.certified.specs.Histories.{sky-of, core-of}
+use Rattle.accounts.specs.Laws.{box-in}
+use Rattle.telling.proofs.Skies.{usual-inside}
 use Rattle.telling.proofs.Resting.{Resting, Paths-stay}
-use Rattle.telling.proofs.Ways.{fit-none, clock-told}
+use Rattle.telling.proofs.Ways.{fit-none}
 use Rattle.telling.proofs.History.{Inv, inv-rests, inv-calls, inv-opened}
 
 -- ---- small facts
@@ -121,27 +124,27 @@ module _ (hold : Reports-hold) (bits : Bits-tell) (rest : Changes-rest) (stay : 
   abbrev pub told-sky : Sky
   told-sky = record { box = boxes-now (changes (story b calls)); path = λ c. path (book-now b (changes (story b calls))) c }
 
-  pub inv : Inv (b .scale) small hold (book-now b (changes (story b calls))) (boxes-now (changes (story b calls))) now
-  inv = inv-calls (b .scale) small hold rest stay calls b (λ _. None) (opened b) (inv-opened (b .scale) small hold b (lawful .paths))
+  pub inv : Inv (b .scale) small hold now
+  inv = inv-calls (b .scale) small hold rest stay calls (opened b) (inv-opened (b .scale) small hold b (lawful .paths))
 
   pub sky-is : sky-of (now .hall) ≡ told-sky
-  sky-is = λ i. record { box = λ c. inv .boxes c i; path = λ c. path (inv .book i) c }
+  sky-is = λ i. record { box = sym (histories-agree b calls .boxes) i; path = λ c. path (sym (histories-agree b calls .book) i) c }
 
   pub at-rest : (t : Fraction) → clock-now (story b calls) ≡ quiet t → Usual t × Resting (b .scale) small t (now .hall)
-  at-rest t e = inv-rests (b .scale) small hold (book-now b (changes (story b calls))) (boxes-now (changes (story b calls))) now inv t (sym (clock-told calls (opened b)) ∙ e)
+  at-rest t e = inv-rests (b .scale) small hold now inv t (sym (histories-agree b calls .clock) ∙ e)
 
   module _ (t : Fraction) (ct : clock-now (story b calls) ≡ quiet t) where
     decides : (c d : ℕ) (k l : Box) → c < d → boxes-now (changes (story b calls)) c ≡ Some k → boxes-now (changes (story b calls)) d ≡ Some l →
         Decides (together c d (now .hall)) (Touch (told-sky .path c) k (told-sky .path d) l t)
     decides c d k l h p q =
         let r = at-rest t ct in
-        bits (b .scale) told-sky (λ c. inv .lawful [] c) t (r .0 .proper) (usual-inside t (r .0)) (core-of (now .hall)) (subst (λ (y : Sky). Rested y t (core-of (now .hall))) sky-is (r .1 .rested)) c d k l h p q
+        bits (b .scale) told-sky (λ c. lawful .paths (book-changes (changes (story b calls))) c) t (r .0 .proper) (usual-inside t (r .0)) (core-of (now .hall)) (subst (λ (y : Sky). Rested y t (core-of (now .hall))) sky-is (r .1 .rested)) c d k l h p q
 
     box-now : (c : ℕ) → in-hall (now .hall) c ≡ true → (k : Box) × (boxes-now (changes (story b calls)) c ≡ Some k)
-    box-now c f = let z = some-box (now .hall .craft c) f in (z .0, sym (inv .boxes c) ∙ z .1)
+    box-now c f = let z = some-box (now .hall .craft c) f in (z .0, (λ i. histories-agree b calls .boxes i c) ∙ z .1)
 
     in-now : (c : ℕ) (k : Box) → boxes-now (changes (story b calls)) c ≡ Some k → in-hall (now .hall) c ≡ true
-    in-now c k e = box-some (now .hall .craft c) k (inv .boxes c ∙ e)
+    in-now c k e = box-some (now .hall .craft c) k ((λ i. sym (histories-agree b calls .boxes) i c) ∙ e)
 
     low-now : (c : ℕ) → in-hall (now .hall) c ≡ true → c < 64
     low-now c f = at-rest t ct .1 .good .low c f

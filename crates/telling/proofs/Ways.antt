@@ -193,29 +193,3 @@ module _ (w : ℕ) (w8 : w ≤ 8) where
         by : (o : Option ℕ) → refusal call z ≡ o → if-accepted (unless o call z .answer .result) (change-of call) ≡ [] → Way (rs ++ answer-reports (unless o call z .answer)) (unless o call z .state .clock) (unless o call z .state .hall)
         by None e none = way-carried call z rs e none v
         by (Some n) e none = same-way z rs v
-
--- ---- the clock told is the clock
-clock-carried : (call : Call) (z : State) → clock-given (carried-out call z .answer .result) (z .clock) ≡ carried-out call z .state .clock
-clock-carried (changing t x slip) z = refl
-clock-carried (setting t n d) z = refl
-clock-carried (stepping t g slip) z = by (next-due g (z .hall))
-  where
-    by : (f : Option (ℕ × Stamp)) → clock-given (stepping-to f z .answer .result) (z .clock) ≡ stepping-to f z .state .clock
-    by None = refl
-    by (Some f) = refl
-clock-carried (running t g slip page) z = refl
-clock-carried (resting t g) z = refl
-clock-carried (touching t c d) z = refl
-clock-carried (listing t room) z = refl
-clock-carried (asking i) z = refl
-
-clock-call : (call : Call) (z : State) → clock-given (perform call z .answer .result) (z .clock) ≡ perform call z .state .clock
-clock-call call z = by (refusal call z)
-  where
-    by : (o : Option ℕ) → clock-given (unless o call z .answer .result) (z .clock) ≡ unless o call z .state .clock
-    by None = clock-carried call z
-    by (Some n) = refl
-
-pub clock-told : (calls : List Call) (z : State) → clock-from (z .clock) (events calls z) ≡ after calls z .clock
-clock-told [] z = refl
-clock-told (c ∷ cs) z = ap (λ (k : Clock). clock-from k (events cs (perform c z .state))) (clock-call c z) ∙ clock-told cs (perform c z .state)
