@@ -52,24 +52,25 @@ leave-book c m = axes-keep book-in (λ a. each (drop-bit a c) (others c m)) (λ 
 
 renew-book : (c : ℕ) (ds : List ℕ) (k : Stamp) (a : Axis) (h : Hall) → renew c ds k a h .hall .book ≡ h .book
 renew-book c ds k a h =
-  each-keeps book-in (λ d. grant-bit a c d k) (λ d n. refl) ds (each (λ d. take-away withdrawn (slot a c d)) ds h .hall)
-  ∙ each-keeps book-in (λ d. take-away withdrawn (slot a c d)) (λ d n. refl) ds h
+    each-keeps book-in (λ d. grant-bit a c d k) (λ d n. refl) ds (each (λ d. take-away withdrawn (slot a c d)) ds h .hall)
+    ∙ each-keeps book-in (λ d. take-away withdrawn (slot a c d)) (λ d n. refl) ds h
 
 pub fire-book : (s : ℕ) (k : Stamp) (m : Hall) → fire s k m .hall .book ≡ m .book
 fire-book s k m = by (ltb s 12288)
   where
     n : Hall
     n = take-away fired s m .hall
+
     by : (b : Bool) → then (take-away fired s) (fire-kind b s k) m .hall .book ≡ m .book
     by true = refl
     by false = axes-keep book-in (renew (s - 12288) (others (s - 12288) (take-away fired s m .hall)) k) (renew-book (s - 12288) (others (s - 12288) (take-away fired s m .hall)) k) (read-leg (s - 12288) (craft-of (s - 12288) (take-away fired s m .hall) .box) k (take-away fired s m .hall))
 
 pub change-book : (x : BookChange) (k : Stamp) (m : Hall) → change x k m .hall .book ≡ changed x (m .book)
 change-book x k m =
-  let ds = followers (craft-set x) m in
-  let h = each leave ds m .hall in
-  each-keeps book-in (λ d. enter d (craft-of d m .box) k) (λ d n. enter-book d (craft-of d m .box) k n) ds (with-book (changed x (h .book)) h)
-  ∙ ap (changed x) (each-keeps book-in leave leave-book ds m)
+    let ds = followers (craft-set x) m in
+    let h = each leave ds m .hall in
+    each-keeps book-in (λ d. enter d (craft-of d m .box) k) (λ d n. enter-book d (craft-of d m .box) k n) ds (with-book (changed x (h .book)) h)
+    ∙ ap (changed x) (each-keeps book-in leave leave-book ds m)
 
 -- THE BOXES
 
@@ -113,9 +114,9 @@ fire-boxes s k m h = by (ltb s 12288) refl
     by : (b : Bool) → ltb s 12288 ≡ b → boxes (then (take-away fired s) (fire-kind b s k) m .hall) ≡ boxes m
     by true e = refl
     by false e =
-      let c = s - 12288 in
-      let n = take-away fired s m .hall in
-      boxes-put n (fire-leg c k n .hall) c _ (fire-leg-craft c k n) ∙ put-back (boxes m) c (Some (craft-of c n .box)) (box-of m c (h (ltb-false s 12288 e)))
+        let c = s - 12288 in
+        let n = take-away fired s m .hall in
+        boxes-put n (fire-leg c k n .hall) c _ (fire-leg-craft c k n) ∙ put-back (boxes m) c (Some (craft-of c n .box)) (box-of m c (h (ltb-false s 12288 e)))
 
 -- a number stands in a list or not
 pub member : (ds : List ℕ) (j : ℕ) → (j ∈ ds) ⊎ (j ∈ ds → ⊥)
@@ -142,8 +143,8 @@ leave-others (d ∷ ds) m j e = leave-others ds (leave d m .hall) j (λ g. e (Li
 enter-others : (ds : List ℕ) (m₀ : Hall) (k : Stamp) (m : Hall) (j : ℕ) → (j ∈ ds → ⊥) → boxes (come-back ds m₀ k m .hall) j ≡ boxes m j
 enter-others [] m₀ k m j e = refl
 enter-others (d ∷ ds) m₀ k m j e =
-  enter-others ds m₀ k (enter d (craft-of d m₀ .box) k m .hall) j (λ g. e (List·Memᴰ·tail g))
-  ∙ at-put (boxes (enter d (craft-of d m₀ .box) k m .hall)) (boxes m) d (Some (craft-of d m₀ .box)) j (enter-boxes d (craft-of d m₀ .box) k m) (λ q. e (List·Memᴰ·head q))
+    enter-others ds m₀ k (enter d (craft-of d m₀ .box) k m .hall) j (λ g. e (List·Memᴰ·tail g))
+    ∙ at-put (boxes (enter d (craft-of d m₀ .box) k m .hall)) (boxes m) d (Some (craft-of d m₀ .box)) j (enter-boxes d (craft-of d m₀ .box) k m) (λ q. e (List·Memᴰ·head q))
 
 -- those that come back have the boxes that they had
 enter-own : (ds : List ℕ) (m₀ : Hall) (k : Stamp) (m : Hall) (j : ℕ) → Some-outside m ds → j ∈ ds → boxes (come-back ds m₀ k m .hall) j ≡ Some (craft-of j m₀ .box)
@@ -153,22 +154,22 @@ enter-own (d ∷ ds) m₀ k m j o e = by (λ g. enter-own ds m₀ k (enter d (cr
     by : (j ∈ ds → boxes (come-back ds m₀ k (enter d (craft-of d m₀ .box) k m .hall) .hall) j ≡ Some (craft-of j m₀ .box)) → (j ≡ d) ⊎ (j ∈ ds) → boxes (come-back ds m₀ k (enter d (craft-of d m₀ .box) k m .hall) .hall) j ≡ Some (craft-of j m₀ .box)
     by more (inr g) = more g
     by more (inl g) =
-      enter-others ds m₀ k (enter d (craft-of d m₀ .box) k m .hall) j (λ q. let h = o .apart .0 j q in omega arith)
-      ∙ ap (λ (h : ℕ → Option Box). h j) (enter-boxes d (craft-of d m₀ .box) k m) ∙ ap (put (boxes m) d (Some (craft-of d m₀ .box))) g
-      ∙ put-here (boxes m) d (Some (craft-of d m₀ .box)) ∙ ap (λ (i : ℕ). Some (craft-of i m₀ .box)) (sym g)
+        enter-others ds m₀ k (enter d (craft-of d m₀ .box) k m .hall) j (λ q. let h = o .apart .0 j q in omega arith)
+        ∙ ap (λ (h : ℕ → Option Box). h j) (enter-boxes d (craft-of d m₀ .box) k m) ∙ ap (put (boxes m) d (Some (craft-of d m₀ .box))) g
+        ∙ put-here (boxes m) d (Some (craft-of d m₀ .box)) ∙ ap (λ (i : ℕ). Some (craft-of i m₀ .box)) (sym g)
 
 pub change-boxes : (x : BookChange) (k : Stamp) (m : Hall) → boxes (change x k m .hall) ≡ boxes m
 change-boxes x k m = same-boxes (boxes (change x k m .hall)) (boxes m) (λ j. by j (member (followers (craft-set x) m) j))
   where
     by : (j : ℕ) → (j ∈ followers (craft-set x) m) ⊎ (j ∈ followers (craft-set x) m → ⊥) → boxes (change x k m .hall) j ≡ boxes m j
     by j (inl e) =
-      let ds = followers (craft-set x) m in
-      let h = each leave ds m .hall in
-      enter-own ds m k (with-book (changed x (h .book)) h) j (followers-outside x m) e ∙ sym (box-of m j (followers-entered (craft-set x) m .inside j e))
+        let ds = followers (craft-set x) m in
+        let h = each leave ds m .hall in
+        enter-own ds m k (with-book (changed x (h .book)) h) j (followers-outside x m) e ∙ sym (box-of m j (followers-entered (craft-set x) m .inside j e))
     by j (inr e) =
-      let ds = followers (craft-set x) m in
-      let h = each leave ds m .hall in
-      enter-others ds m k (with-book (changed x (h .book)) h) j e ∙ leave-others ds m j e
+        let ds = followers (craft-set x) m in
+        let h = each leave ds m .hall in
+        enter-others ds m k (with-book (changed x (h .book)) h) j e ∙ leave-others ds m j e
 
 -- THE CALLS
 
@@ -191,15 +192,15 @@ run-boxes zero goal lines bytes m ls h = refl
 run-boxes (suc n) goal lines bytes m ls h = by (λ l b k xs g. run-boxes n goal l b k xs g) (next-due goal m) (ending (next-due goal m) lines bytes m) refl refl
   where
     by : ((l b : ℕ) (k : Hall) (xs : List ℕ) → Stands k xs → boxes (run-in n goal l b k .hall) ≡ boxes k) → (f : Option (ℕ × Stamp)) (o : Option ℕ) →
-      next-due goal m ≡ f → ending (next-due goal m) lines bytes m ≡ o → boxes (run-on (run-in n goal) f o lines bytes m .hall) ≡ boxes m
+        next-due goal m ≡ f → ending (next-due goal m) lines bytes m ≡ o → boxes (run-on (run-in n goal) f o lines bytes m .hall) ≡ boxes m
     by more None None p q = refl
     by more None (Some j) p q = refl
     by more (Some f) (Some j) p q = refl
     by more (Some f) None p q =
-      let r = unfit ((0, not (isSome (next-due goal m))) ∷ (15, ltb lines 380 || ltb bytes 11) ∷ (16, ltb (left m) 190) ∷ []) q in
-      let d = next-holds goal m f p in
-      more _ _ (fire (f .0) (f .1) m .hall) _ (fire-stands f m ls d (ltb-false (left m) 190 (r .1 .1 .0)) h)
-      ∙ fire-boxes (f .0) (f .1) m (due-in m ls (h .sound) f d)
+        let r = unfit ((0, not (isSome (next-due goal m))) ∷ (15, ltb lines 380 || ltb bytes 11) ∷ (16, ltb (left m) 190) ∷ []) q in
+        let d = next-holds goal m f p in
+        more _ _ (fire (f .0) (f .1) m .hall) _ (fire-stands f m ls d (ltb-false (left m) 190 (r .1 .1 .0)) h)
+        ∙ fire-boxes (f .0) (f .1) m (due-in m ls (h .sound) f d)
 
 -- what a call changes, told by its answer
 abbrev told-changes : Call → State → List Change
@@ -226,6 +227,7 @@ perform-book call z = by (refusal call z)
     carried (touching t c d) = refl
     carried (listing t room) = refl
     carried (asking s) = refl
+
     by : (o : Option ℕ) → unless o call z .state .hall .book ≡ changed-by (book-changes (if-accepted (unless o call z .answer .result) (change-of call))) (z .hall .book)
     by None = carried call
     by (Some n) = refl
@@ -251,6 +253,7 @@ perform-boxes call z ls h = by (refusal call z)
     carried (touching t c d) = refl
     carried (listing t room) = refl
     carried (asking s) = refl
+
     by : (o : Option ℕ) → boxes (unless o call z .state .hall) ≡ boxes-from (boxes (z .hall)) (if-accepted (unless o call z .answer .result) (change-of call))
     by None = carried call
     by (Some n) = refl
@@ -271,6 +274,7 @@ perform-clock call z = by (refusal call z)
     carried (touching t c d) = refl
     carried (listing t room) = refl
     carried (asking s) = refl
+
     by : (o : Option ℕ) → unless o call z .state .clock ≡ clock-given (unless o call z .answer .result) (z .clock)
     by None = carried call
     by (Some n) = refl
@@ -290,9 +294,9 @@ book-append (booking x ∷ xs) ys b = book-append xs ys (changed x b)
 pub book-agrees : (calls : List Call) (z : State) → changed-by (book-changes (changes (events calls z))) (z .hall .book) ≡ after calls z .hall .book
 book-agrees [] z = refl
 book-agrees (x ∷ xs) z =
-  book-append (told-changes x z) (changes (events xs (perform x z .state))) (z .hall .book)
-  ∙ ap (changed-by (book-changes (changes (events xs (perform x z .state))))) (sym (perform-book x z))
-  ∙ book-agrees xs (perform x z .state)
+    book-append (told-changes x z) (changes (events xs (perform x z .state))) (z .hall .book)
+    ∙ ap (changed-by (book-changes (changes (events xs (perform x z .state))))) (sym (perform-book x z))
+    ∙ book-agrees xs (perform x z .state)
 
 boxes-append : (xs ys : List Change) (f : ℕ → Option Box) → boxes-from f (xs ++ ys) ≡ boxes-from (boxes-from f xs) ys
 boxes-append [] ys f = refl
@@ -301,9 +305,9 @@ boxes-append (x ∷ xs) ys f = boxes-append xs ys (boxes-with x f)
 pub boxes-agree : (calls : List Call) (z : State) (ls : List ℕ) → Stands (z .hall) ls → boxes-from (boxes (z .hall)) (changes (events calls z)) ≡ boxes (after calls z .hall)
 boxes-agree [] z ls h = refl
 boxes-agree (x ∷ xs) z ls h =
-  boxes-append (told-changes x z) (changes (events xs (perform x z .state))) (boxes (z .hall))
-  ∙ ap (λ (f : ℕ → Option Box). boxes-from f (changes (events xs (perform x z .state)))) (sym (perform-boxes x z ls h))
-  ∙ boxes-agree xs (perform x z .state) (ls ++ perform x z .answer .lines) (perform-stands x z ls h)
+    boxes-append (told-changes x z) (changes (events xs (perform x z .state))) (boxes (z .hall))
+    ∙ ap (λ (f : ℕ → Option Box). boxes-from f (changes (events xs (perform x z .state)))) (sym (perform-boxes x z ls h))
+    ∙ boxes-agree xs (perform x z .state) (ls ++ perform x z .answer .lines) (perform-stands x z ls h)
 
 -- of every history
 pub clock-is : (b : Book) (calls : List Call) → clock-now (story b calls) ≡ after calls (opened b) .clock

@@ -40,16 +40,21 @@ first-is t (k ∷ ks) = by (is-before t (tick k)) refl (first-after t ks) (first
     by true e (Some b) f = pick (decLe k b)
       where
         pick : Dec (k ≤ b) → (min k b ∈ (k ∷ ks)) × Before t (tick (min k b)) × ((j : ℕ) → j ∈ (k ∷ ks) → Before t (tick j) → min k b ≤ j)
-        pick (yes h) = let z : min k b ≡ k = omega arith in
-          (List·Memᴰ·head z, subst (λ (n : ℕ). Before t (tick n)) (sym z) (tests-right .0 t (tick k) .0 e),
-           λ j m c. ⊎-elim (λ (q : j ≡ k). omega arith) (λ (q : j ∈ ks). let u = f .2 j q c in omega arith) (List·Memᴰ·cases-cons m))
-        pick (no h) = let z : b ≡ min k b = omega arith in
-          (subst (λ (n : ℕ). n ∈ (k ∷ ks)) z (List·Memᴰ·tail (f .0)), subst (λ (n : ℕ). Before t (tick n)) z (f .1),
-           λ j m c. ⊎-elim (λ (q : j ≡ k). omega arith) (λ (q : j ∈ ks). let u = f .2 j q c in omega arith) (List·Memᴰ·cases-cons m))
+        pick (yes h) = let z : min k b ≡ k = omega arith in (
+          List·Memᴰ·head z,
+          subst (λ (n : ℕ). Before t (tick n)) (sym z) (tests-right .0 t (tick k) .0 e),
+          λ j m c. ⊎-elim (λ (q : j ≡ k). omega arith) (λ (q : j ∈ ks). let u = f .2 j q c in omega arith) (List·Memᴰ·cases-cons m),
+        )
+        pick (no h) = let z : b ≡ min k b = omega arith in (
+          subst (λ (n : ℕ). n ∈ (k ∷ ks)) z (List·Memᴰ·tail (f .0)),
+          subst (λ (n : ℕ). Before t (tick n)) z (f .1),
+          λ j m c. ⊎-elim (λ (q : j ≡ k). omega arith) (λ (q : j ∈ ks). let u = f .2 j q c in omega arith) (List·Memᴰ·cases-cons m),
+        )
     by false e o f = later o f
       where
         not-k : (j : ℕ) → j ≡ k → Before t (tick j) → ⊥
         not-k j q c = false-true (sym e ∙ tests-right .0 t (tick k) .1 (subst (λ (n : ℕ). Before t (tick n)) q c))
+
         later : (o : Option ℕ) → First t ks o → First t (k ∷ ks) o
         later None l = λ j m c. ⊎-elim (λ (q : j ≡ k). not-k j q c) (λ (q : j ∈ ks). l j q c) (List·Memᴰ·cases-cons m)
         later (Some b) l = (List·Memᴰ·tail (l .0), l .1, λ j m c. ⊎-elim (λ (q : j ≡ k). absurd (not-k j q c)) (λ (q : j ∈ ks). l .2 j q c) (List·Memᴰ·cases-cons m))
@@ -84,8 +89,8 @@ module _ (w : ℕ) (p : Path) (kept : Kept w p) (t : Fraction) (pt : Proper t) (
 
   pub break-now : e ≡ at-break (first-after t (p .breaks))
   break-now = f .reads .end ∙ ap at-break (first-one t (p .breaks) (first-after (f .read) (p .breaks)) (first-after t (p .breaks))
-    (first-later (f .read) t (f .proper) pt (f .since) (p .breaks) (first-after (f .read) (p .breaks)) (first-is (f .read) (p .breaks)) ahead)
-    (first-is t (p .breaks)))
+      (first-later (f .read) t (f .proper) pt (f .since) (p .breaks) (first-after (f .read) (p .breaks)) (first-is (f .read) (p .breaks)) ahead)
+      (first-is t (p .breaks)))
 
   -- no break lies after the reading and up to t
   none-between : (i : ℕ) → whole (f .read) < i → i < suc (whole t) → i ∈ p .breaks → ⊥
@@ -93,20 +98,22 @@ module _ (w : ℕ) (p : Path) (kept : Kept w p) (t : Fraction) (pt : Proper t) (
     where
       up : (x y : ℕ) → x < y → suc x ≤ y
       up x y z = z
+
       read-before : Before (f .read) (tick i)
       read-before = omega (arith, end-ok (f .read) (f .proper), mul-le-mul-right (f .read .den) (up (whole (f .read)) i h))
+
       by : (o : Option ℕ) → first-after (f .read) (p .breaks) ≡ o → First (f .read) (p .breaks) o → ⊥
       by None q n = n i m read-before
       by (Some b) q n =
-        let u : b ≤ i = n .2 i m read-before in
-        let v : b ≤ whole t = omega arith in
-        omega (arith, ahead b q, start-ok t, mul-le-mul-right (t .den) v)
+          let u : b ≤ i = n .2 i m read-before in
+          let v : b ≤ whole t = omega arith in
+          omega (arith, ahead b q, start-ok t, mul-le-mul-right (t .den) v)
 
   pub leg-now : (a : Axis) → l a ≡ leg p t a
   leg-now a =
-    let s = kept-straight w p kept a (whole (f .read)) (suc (whole t)) none-between in
-    let begun = whole-mono (f .read) t (f .proper) pt (f .since) in
-    f .reads .lines a ∙ sym (same-leg p a (whole (f .read)) (suc (whole t)) t s pt (omega (arith, start-ok t, mul-le-mul-right (t .den) begun)) (end-ok t pt))
+      let s = kept-straight w p kept a (whole (f .read)) (suc (whole t)) none-between in
+      let begun = whole-mono (f .read) t (f .proper) pt (f .since) in
+      f .reads .lines a ∙ sym (same-leg p a (whole (f .read)) (suc (whole t)) t s pt (omega (arith, start-ok t, mul-le-mul-right (t .den) begun)) (end-ok t pt))
 
 -- THE CERTIFICATES
 
@@ -116,9 +123,11 @@ right-bit bit p q t pt it f c quiet = same bit (overlap p q (at t)) (by f c quie
   where
     self : is-earlier (at t) (at t) ≡ false
     self = not-earlier-is (at t) (at t) (not-earlier-self (at t))
+
     by : (f : Option Stamp) → Fails bit p q (at t) f → ((k : Stamp) → f ≡ Some k → is-earlier (at t) k ≡ true) → wrong bit (overlap p q (at t)) ≡ false
     by None c n = c (at t) pt it self
     by (Some k) c n = c .right-before (at t) pt self (n k refl)
+
     same : (x y : Bool) → wrong x y ≡ false → x ≡ y
     same true true e = refl
     same true false e = absurd (false-true (sym e))
@@ -128,19 +137,21 @@ right-bit bit p q t pt it f c quiet = same bit (overlap p q (at t)) (by f c quie
 pub certificates-rest : Certificates-rest
 certificates-rest w y law t pt it s rest = record {
   pairs = λ i h a. pair i h a;
-  legs = λ c h. break-now w (y .path c) (law c) t pt (s .leg c) (s .turn c) (rest .sound .legs c h) (rest .quiet .legs c h) }
+  legs = λ c h. break-now w (y .path c) (law c) t pt (s .leg c) (s .turn c) (rest .sound .legs c h) (rest .quiet .legs c h);
+}
   where
     line : (c : ℕ) → flies y c ≡ true → (a : Axis) → s .leg c a ≡ leg (y .path c) t a
     line c h = leg-now w (y .path c) (law c) t pt (s .leg c) (s .turn c) (rest .sound .legs c h) (rest .quiet .legs c h)
+
     pair : (i : Pair) → In y i → (a : Axis) → let p = ends-at y t a (i .lower) in let q = ends-at y t a (i .higher) in Fails (overlap p q (at t)) p q (at t) (s .fails i a)
     pair i h a =
-      let p : ends (box-of y (i .lower)) a (s .leg (i .lower) a) ≡ ends-at y t a (i .lower) = ap (ends (box-of y (i .lower)) a) (line (i .lower) (h .first) a) in
-      let q : ends (box-of y (i .higher)) a (s .leg (i .higher) a) ≡ ends-at y t a (i .higher) = ap (ends (box-of y (i .higher)) a) (line (i .higher) (h .second) a) in
-      let c = rest .sound .bits i h a in
-      let b = right-bit (s .bit i a) (ends (box-of y (i .lower)) a (s .leg (i .lower) a)) (ends (box-of y (i .higher)) a (s .leg (i .higher) a)) t pt it (s .fails i a) c (rest .quiet .bits i h a) in
-      let moved : Fails (overlap (ends (box-of y (i .lower)) a (s .leg (i .lower) a)) (ends (box-of y (i .higher)) a (s .leg (i .higher) a)) (at t)) (ends (box-of y (i .lower)) a (s .leg (i .lower) a)) (ends (box-of y (i .higher)) a (s .leg (i .higher) a)) (at t) (s .fails i a) =
-            subst (λ (x : Bool). Fails x (ends (box-of y (i .lower)) a (s .leg (i .lower) a)) (ends (box-of y (i .higher)) a (s .leg (i .higher) a)) (at t) (s .fails i a)) b c in
-      both (ends (box-of y (i .lower)) a (s .leg (i .lower) a)) (ends-at y t a (i .lower)) (ends (box-of y (i .higher)) a (s .leg (i .higher) a)) (ends-at y t a (i .higher)) p q (s .fails i a) moved
+        let p : ends (box-of y (i .lower)) a (s .leg (i .lower) a) ≡ ends-at y t a (i .lower) = ap (ends (box-of y (i .lower)) a) (line (i .lower) (h .first) a) in
+        let q : ends (box-of y (i .higher)) a (s .leg (i .higher) a) ≡ ends-at y t a (i .higher) = ap (ends (box-of y (i .higher)) a) (line (i .higher) (h .second) a) in
+        let c = rest .sound .bits i h a in
+        let b = right-bit (s .bit i a) (ends (box-of y (i .lower)) a (s .leg (i .lower) a)) (ends (box-of y (i .higher)) a (s .leg (i .higher) a)) t pt it (s .fails i a) c (rest .quiet .bits i h a) in
+        let moved : Fails (overlap (ends (box-of y (i .lower)) a (s .leg (i .lower) a)) (ends (box-of y (i .higher)) a (s .leg (i .higher) a)) (at t)) (ends (box-of y (i .lower)) a (s .leg (i .lower) a)) (ends (box-of y (i .higher)) a (s .leg (i .higher) a)) (at t) (s .fails i a) =
+        subst (λ (x : Bool). Fails x (ends (box-of y (i .lower)) a (s .leg (i .lower) a)) (ends (box-of y (i .higher)) a (s .leg (i .higher) a)) (at t) (s .fails i a)) b c in
+        both (ends (box-of y (i .lower)) a (s .leg (i .lower) a)) (ends-at y t a (i .lower)) (ends (box-of y (i .higher)) a (s .leg (i .higher) a)) (ends-at y t a (i .higher)) p q (s .fails i a) moved
       where
         both : (p p' q q' : Ends) → p ≡ p' → q ≡ q' → (f : Option Stamp) → Fails (overlap p q (at t)) p q (at t) f → Fails (overlap p' q' (at t)) p' q' (at t) f
         both p p' q q' e g f c = subst (λ (z : Ends). Fails (overlap p' z (at t)) p' z (at t) f) g (subst (λ (z : Ends). Fails (overlap z q (at t)) z q (at t) f) e c)

@@ -21,7 +21,8 @@ core-of m = record {
   leg = λ c a. craft-of c m .leg a;
   turn = λ c. m .queue (leg-slot c);
   bit = λ i a. m .bit (slot a (i .lower) (i .higher));
-  fails = λ i a. m .queue (slot a (i .lower) (i .higher)) }
+  fails = λ i a. m .queue (slot a (i .lower) (i .higher));
+}
 
 -- with a quiet clock at t the machine is at rest
 pub record Rests (b : Book) (calls : List Call) : Type 0 where
