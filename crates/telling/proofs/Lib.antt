@@ -10,3 +10,4 @@ pub mod Ways
 pub mod History
 pub mod Touches
 pub mod Reporting
+pub mod Promises

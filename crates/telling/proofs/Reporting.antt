@@ -132,8 +132,8 @@ module _ (hold : Reports-hold) (bits : Bits-tell) (rest : Changes-rest) (stay : 
     pub plain : AllPlain (reports (further b calls more))
     plain = goes-gone (b .scale) small t end (here .hall) (reports (further b calls more)) (rest-now .1 .good) (rest-now .1 .kept) (way-on .2) .plain
 
-  pub reports-hold : Reports b calls
-  reports-hold = record {
+  pub reporting-holds : Reports b calls
+  reporting-holds = record {
       true-told = λ more s t on r e. (plain-in (reports (further b calls more)) r (plain more s t on) e, happens s t (r .news) (r .time) (reported more s t on .true-told r e));
       all-told = λ more s t on w u p h. reported more s t on .all-told w u p (unhappens s t w u h);
       ordered = λ more s t on. reported more s t on .ordered;
