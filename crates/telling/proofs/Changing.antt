@@ -1,36 +1,34 @@
 -- Changes at a quiet clock: entering, leaving, and a change of the book between, keep the machine at rest.
-use mathlib.Core.Bool.{Bool, true, false, cond, not, _&&_}
-use mathlib.Core.List.{List, [], _∷_, List·Memᴰ·head, List·Memᴰ·tail}
+use mathlib.Core.Bool.{true, false}
 use mathlib.Core.Logic.{_⊎_, inl, inr}
-use mathlib.Core.Path.{_≡_, refl, sym, ap, _∙_, subst}
-use Prim.Native.Nat.{ℕ, zero, suc, _+_, _-_, _*_, _≤_, _<_}
+use mathlib.Core.Path.{_≡_, sym, ap, _∙_, subst}
+use Prim.Native.Nat.{ℕ, _≤_, _<_}
 use native.Mathlib.Omega.{arith}
 use lib.IntN.{natAbs}
 use Rattle.std.specs.declared.option.Option.{Option}
 use Rattle.std.specs.declared.option.Option.the-variants.{Some, None}
 use Rattle.std.specs.Options.{isSome}
-use Rattle.std.proofs.shelf.Tests.{cases-bool, both-ways}
-use Rattle.rules.specs.Basics.{_∈_, put, the, those}
-use Rattle.rules.specs.Fractions.{Fraction, Proper, NotAfter, Usual, tick}
-use Rattle.rules.specs.Stamps.{Stamp, at}
-use Rattle.rules.specs.Paths.{Axis, X, Y, Z, Path, leg, Kept}
-use Rattle.rules.specs.Books.{Book, path, break-after, follows, BookChange, file, ride, changed}
+use Rattle.std.proofs.shelf.Tests.{both-ways}
+use Rattle.rules.specs.Basics.{_∈_, the}
+use Rattle.rules.specs.Fractions.{Fraction, Usual}
+use Rattle.rules.specs.Stamps.{at}
+use Rattle.rules.specs.Paths.{Axis, leg}
+use Rattle.rules.specs.Books.{path, break-after}
 use Rattle.rules.specs.Boxes.{Box}
 use Rattle.rules.specs.Slots.{slot, leg-slot}
-use Rattle.model.specs.Halls.{Craft, Hall, with-book, all-craft, in-hall, entered, others}
-use Rattle.model.specs.Moves.{Out, then, each, nobody, craft-of, at-break, enter, leave, craft-set, followers, come-back, change}
-use Rattle.events.specs.Machine.{Sky, flies, Pair, In, Core, Certified, Reads, Rested}
-use Rattle.events.specs.Changes.{Stays, Remains, Anew, Changed, Changes-rest}
-use Rattle.accounts.proofs.Puts.{put-here, put-other, same-or-not, those-in, in-those}
-use Rattle.accounts.proofs.Frames.{craft-below, below-craft}
-use Rattle.telling.proofs.Places.{slot-swap, slot-leg}
-use Rattle.telling.proofs.Effects.{Cell, cell, Written, each-keeps, each-written, failing, fresh}
-use Rattle.telling.proofs.Moved.{Moved, Other, others-out, others-in, cell-pair, cell-apart, leg-apart, leg-now, craft-then, enter-amid, enter-moved, leave-amid, leave-moved}
+use Rattle.model.specs.Halls.{Craft, Hall, in-hall, others}
+use Rattle.model.specs.Moves.{nobody, craft-of, at-break, enter, leave}
+use Rattle.events.specs.Machine.{Pair, In, Reads}
+use Rattle.events.specs.Changes.{Stays, Remains, Anew, Changed}
+use Rattle.accounts.proofs.Puts.{put-here, put-other, same-or-not}
+use Rattle.telling.proofs.Places.{slot-swap}
+use Rattle.telling.proofs.Effects.{Cell, cell, failing, fresh}
+use Rattle.telling.proofs.Moved.{Moved, others-out, others-in, cell-pair, cell-apart, leg-apart, leg-now, craft-then, enter-amid, enter-moved, leave-amid, leave-moved}
 use Rattle.certified.specs.Histories.{sky-of, core-of}
 use Rattle.accounts.specs.Laws.{box-in}
-use Rattle.telling.proofs.Skies.{flies-is, two, certified, read-right, fresh-swap, SlowLegs, failing-usual, usual-inside, break-usual, leg-slow, Live, Good, moved-live, moved-neat}
-use Rattle.telling.proofs.Firing.{flying, in-flight, pair-low}
-use Rattle.telling.proofs.Steps.{KeptPaths, kept-on}
+use Rattle.telling.proofs.Skies.{two, certified, read-right, fresh-swap, SlowLegs, failing-usual, usual-inside, break-usual, leg-slow, Good, moved-live, moved-neat}
+use Rattle.telling.proofs.Firing.{flying, pair-low}
+use Rattle.telling.proofs.Steps.{KeptPaths}
 
 none-some : {A : Type 0} {B : Type 0} (x : B) → _≡_ {A = Option B} None (Some x) → A
 none-some x e = let z : _≡_ {A = ℕ} 0 1 = cc in absurd (omega arith)

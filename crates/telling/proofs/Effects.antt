@@ -1,20 +1,19 @@
 -- What entering, leaving and firing do to the bits, the queue and the craft, slot by slot.
-use mathlib.Core.Bool.{Bool, true, false, cond, not, _&&_}
+use mathlib.Core.Bool.{Bool, false}
 use mathlib.Core.List.{List, [], _∷_, List·Memᴰ·head, List·Memᴰ·tail, List·Memᴰ·not-nil, List·Memᴰ·cases-cons}
 use mathlib.Core.Logic.{_⊎_, inl, inr}
-use mathlib.Core.Path.{_≡_, refl, sym, ap, _∙_, subst}
-use Prim.Native.Nat.{ℕ, zero, suc, _+_, _-_, _*_, _≤_, _<_, min, max}
-use native.Mathlib.Omega.{arith}
+use mathlib.Core.Path.{_≡_, refl, ap, _∙_}
+use Prim.Native.Nat.{ℕ, min, max}
 use Rattle.std.specs.declared.option.Option.{Option}
-use Rattle.std.specs.declared.option.Option.the-variants.{Some, None}
+use Rattle.std.specs.declared.option.Option.the-variants.{None}
 use Rattle.rules.specs.Basics.{_∈_, put, the}
 use Rattle.rules.specs.Stamps.{Stamp}
 use Rattle.rules.specs.Paths.{Axis, X, Y, Z, leg}
-use Rattle.rules.specs.Books.{Book, path, break-after}
-use Rattle.rules.specs.Boxes.{Box, Ends, ends, overlap, fails}
-use Rattle.rules.specs.Slots.{slot, leg-slot}
-use Rattle.model.specs.Halls.{Craft, Hall, with-book, with-craft, with-bit, with-slot, others}
-use Rattle.model.specs.Moves.{Out, silent, then, each, on-axes, withdrawn, fired, grant, take-away, nobody, craft-of, ends-of, read-bit, grant-bit, enter-bit, drop-bit, at-break, grant-leg, read-leg, enter, leave, axis-of, lower-of, higher-of, fire-bit, renew, fire-leg, fire-kind, fire}
+use Rattle.rules.specs.Books.{Book}
+use Rattle.rules.specs.Boxes.{Ends, ends, overlap, fails}
+use Rattle.rules.specs.Slots.{slot}
+use Rattle.model.specs.Halls.{Craft, Hall}
+use Rattle.model.specs.Moves.{Out, then, each, on-axes, withdrawn, take-away, nobody, grant-bit, enter-bit, drop-bit}
 use Rattle.accounts.proofs.Puts.{put-here, put-other, same-or-not}
 
 -- a slot's bit and moment

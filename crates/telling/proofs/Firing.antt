@@ -1,36 +1,26 @@
 -- A firing of the hall is one of the machine's, of a certificate that fails first.
-use mathlib.Core.Bool.{Bool, true, false, cond, not, _&&_}
-use mathlib.Core.List.{List, [], _∷_}
+use mathlib.Core.Bool.{true, not}
 use mathlib.Core.Logic.{_⊎_, inl, inr}
 use mathlib.Core.Path.{_≡_, refl, sym, ap, _∙_, subst}
-use Prim.Native.Nat.{ℕ, zero, suc, _+_, _-_, _*_, _/_, _≤_, _<_, min, max}
+use Prim.Native.Nat.{ℕ, _≤_, _<_}
 use native.Mathlib.Omega.{arith}
-use lib.Dec.{ltb}
 use lib.IntN.{natAbs}
-use borrow.Author.Tests.{lt-ltb, le-ltb}
 use Rattle.std.specs.declared.option.Option.{Option}
 use Rattle.std.specs.declared.option.Option.the-variants.{Some, None}
 use Rattle.std.specs.Options.{isSome}
-use Rattle.std.proofs.shelf.Tests.{cases-lt}
-use Rattle.rules.specs.Basics.{_∈_, put, the}
-use Rattle.rules.specs.Fractions.{Fraction, Proper, NotAfter, Usual, tick}
-use Rattle.rules.specs.Stamps.{Stamp, at, is-earlier}
-use Rattle.rules.specs.Paths.{Axis, X, Y, Z, Path, leg, Kept}
-use Rattle.rules.specs.Books.{Book, path, break-after}
-use Rattle.rules.specs.Boxes.{Box}
-use Rattle.rules.specs.Slots.{slot, leg-slot, first, First, LeastSlot}
-use Rattle.rules.specs.Pages.{News, met, parted, Report}
-use Rattle.model.specs.Halls.{Craft, Hall, in-hall, others, together, due-by, next-due}
-use Rattle.model.specs.Moves.{Out, nobody, craft-of, at-break, axis-of, lower-of, higher-of, fired, take-away, then, fire-bit, fire-leg, fire-kind, fire}
-use Rattle.model.specs.Runs.{news, news-in, step}
-use Rattle.model.specs.Histories.{stepped-with}
-use Rattle.queues.specs.Laws.{Held}
-use Rattle.queues.proofs.Firsts.{first-right, soonest-first, some-none}
-use Rattle.events.specs.Machine.{Sky, flies, Pair, In, Core, Certified, Reads, None-before, Quiet, Flips, Rereads, Fires, bit-fires, leg-fires, telling}
+use Rattle.rules.specs.Basics.{_∈_, the}
+use Rattle.rules.specs.Fractions.{Usual}
+use Rattle.rules.specs.Stamps.{Stamp}
+use Rattle.rules.specs.Paths.{Axis, leg, Kept}
+use Rattle.rules.specs.Books.{path, break-after}
+use Rattle.rules.specs.Slots.{slot, leg-slot, first}
+use Rattle.model.specs.Halls.{Craft, Hall, in-hall, others}
+use Rattle.model.specs.Moves.{nobody, craft-of, at-break}
+use Rattle.events.specs.Machine.{Sky, flies, Pair, In, Certified, Flips, Rereads}
 use Rattle.accounts.proofs.Puts.{put-here, put-other, same-or-not}
-use Rattle.telling.proofs.Places.{slot-swap, slot-low, slot-one, slot-axis, slot-lower, slot-higher, slot-leg}
-use Rattle.telling.proofs.Effects.{Cell, cell, failing, renewed}
-use Rattle.telling.proofs.Moved.{Moved, Other, others-out, others-in, cell-pair, cell-apart, leg-apart, craft-anew, still-in, leg-fired, leg-amidst, leg-moved, bit-fired, flipped-cell, bit-fired-here, bit-fired-other}
+use Rattle.telling.proofs.Places.{slot-swap, slot-low, slot-one}
+use Rattle.telling.proofs.Effects.{Cell, failing, renewed}
+use Rattle.telling.proofs.Moved.{Moved, others-out, others-in, cell-pair, cell-apart, leg-apart, craft-anew, still-in, leg-fired, leg-amidst, leg-moved, bit-fired, bit-fired-here, bit-fired-other}
 use Rattle.certified.specs.Histories.{sky-of, core-of}
 use Rattle.accounts.specs.Laws.{box-in}
 use Rattle.telling.proofs.Skies.{flies-is, two, certified, failing-swap, SlowLegs, failing-usual, usual-inside, break-usual, leg-slow, Live, Good, moved-live, moved-neat}

@@ -1,43 +1,35 @@
 -- After every list of calls the hall is on its way from one at rest, with no change since.
-use mathlib.Core.Bool.{Bool, true, false, cond, not}
-use mathlib.Core.List.{List, [], _∷_, _++_, append-assoc, append-nil, List·Memᴰ·head, List·Memᴰ·tail, List·Memᴰ·not-nil, List·Memᴰ·cases-cons}
-use mathlib.Core.Logic.{_⊎_, inl, inr}
+use mathlib.Core.Bool.{true, false}
+use mathlib.Core.List.{List, [], _∷_, _++_}
+use mathlib.Core.Logic.{inl, inr}
 use mathlib.Core.Path.{_≡_, refl, sym, ap, _∙_, subst}
-use Prim.Native.Nat.{ℕ, zero, suc, _*_, _≤_, _<_}
+use Prim.Native.Nat.{ℕ, _≤_}
 use native.Mathlib.Omega.{arith}
 use Rattle.std.specs.declared.option.Option.{Option}
 use Rattle.std.specs.declared.option.Option.the-variants.{Some, None}
-use Rattle.std.specs.Options.{isSome}
 use Rattle.std.proofs.shelf.Tests.{leb-false, both-ways}
-use Rattle.rules.specs.Basics.{_∈_, put}
-use Rattle.rules.specs.Fractions.{Fraction, Proper, NotAfter, Usual, tick}
+use Rattle.rules.specs.Fractions.{Fraction, Usual, tick}
 use Rattle.rules.specs.Stamps.{Stamp, at, is-earlier}
-use Rattle.rules.specs.Paths.{Axis, Kept}
-use Rattle.rules.specs.Books.{Book, path, BookChange, changed, changed-by, out-of-range}
-use Rattle.rules.specs.Boxes.{Box}
-use Rattle.rules.specs.Slots.{slot, leg-slot}
-use Rattle.rules.specs.Pages.{Report, page-of, page-read}
-use Rattle.model.specs.Halls.{Clock, quiet, due, Craft, Hall, State, empty-hall, opened, in-hall, left, next-due}
+use Rattle.rules.specs.Paths.{Kept}
+use Rattle.rules.specs.Books.{Book, path, BookChange, changed, changed-by}
+use Rattle.rules.specs.Pages.{Report}
+use Rattle.model.specs.Halls.{Clock, quiet, due, Hall, State, empty-hall, opened, in-hall, next-due}
 use Rattle.model.specs.Moves.{enter, leave, change}
-use Rattle.model.specs.Calls.{Change, entering, leaving, booking, Call, changing, setting, stepping, running, resting, touching, listing, asking, Result, refused, accepted, Answer}
+use Rattle.model.specs.Calls.{Change, entering, leaving, booking, Call, changing, setting, stepping, running, resting, touching, listing, asking, Result, refused, accepted}
 use Rattle.model.specs.Refusals.{refusal}
-use Rattle.model.specs.Runs.{run}
-use Rattle.model.specs.Performing.{make, stepping-to, carried-out, unless, perform}
-use Rattle.model.specs.Histories.{Event, events, after, change-of, if-accepted, changes, book-changes, boxes-with, boxes-from, reports}
-use Rattle.pages.proofs.Reading.{back}
+use Rattle.model.specs.Performing.{make, carried-out, unless, perform}
+use Rattle.model.specs.Histories.{after, if-accepted}
 use Rattle.queues.proofs.Firsts.{some-none}
-use Rattle.events.specs.Machine.{Sky, Core, Sound, Quiet, Rested}
+use Rattle.events.specs.Machine.{Sky, Quiet, Rested}
 use Rattle.events.specs.Reports.{Reported, Reports-hold}
 use Rattle.events.specs.Changes.{Changes-rest}
-use Rattle.accounts.proofs.Puts.{put-here, put-other, same-or-not}
-use Rattle.telling.proofs.Moved.{leg-now, enter-amid, leave-amid}
+use Rattle.telling.proofs.Moved.{enter-amid, leave-amid}
 use Rattle.certified.specs.Histories.{sky-of, core-of}
-use Rattle.accounts.specs.Laws.{box-in}
-use Rattle.telling.proofs.Skies.{flies-is, two, usual-inside, tick-usual, Live, Good}
+use Rattle.telling.proofs.Skies.{two, usual-inside, tick-usual, Live, Good}
 use Rattle.telling.proofs.Firing.{in-flight}
-use Rattle.telling.proofs.Steps.{Goes, stop, Gone, goes-gone, KeptPaths, kept-on, plain-fit, due-first, quiet-now}
-use Rattle.telling.proofs.Resting.{Resting, Paths-stay, enter-rests, leave-rests, change-book, change-boxes, change-rests}
-use Rattle.telling.proofs.Ways.{fit-none, mine-quiet, mine-due, Ran-on, run-goes, Way, way-at, way-carried, answer-reports}
+use Rattle.telling.proofs.Steps.{stop, Gone, goes-gone, KeptPaths, kept-on, due-first, quiet-now}
+use Rattle.telling.proofs.Resting.{Resting, Paths-stay, enter-rests, leave-rests, change-book, change-rests}
+use Rattle.telling.proofs.Ways.{fit-none, mine-quiet, Way, way-at, way-carried}
 
 -- where the machine is quiet the queue has nothing due
 pub quiet-none : (m : Hall) → Good m → (t : Fraction) → Quiet (sky-of m) (core-of m) t → next-due t m ≡ None

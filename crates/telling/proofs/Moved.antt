@@ -1,28 +1,28 @@
 -- What a hall is after a craft has entered or left, and after a certificate has fired.
-use mathlib.Core.Bool.{Bool, true, false, cond, not, _&&_}
-use mathlib.Core.List.{List, [], _∷_}
+use mathlib.Core.Bool.{Bool, true, false, not, _&&_}
+use mathlib.Core.List.{List}
 use mathlib.Core.Logic.{_⊎_, inl, inr}
-use mathlib.Core.Path.{_≡_, refl, sym, ap, _∙_, subst}
-use Prim.Native.Nat.{ℕ, zero, suc, _+_, _-_, _*_, _≤_, _<_, min, max}
+use mathlib.Core.Path.{_≡_, refl, sym, ap, _∙_}
+use Prim.Native.Nat.{ℕ, _<_}
 use native.Mathlib.Omega.{arith}
-use lib.Dec.{eqb, ltb}
-use borrow.Author.Tests.{lt-ltb, le-ltb, eqb-false, ne-eqb}
+use lib.Dec.{eqb}
+use borrow.Author.Tests.{eqb-false, ne-eqb}
 use Rattle.std.specs.declared.option.Option.{Option}
 use Rattle.std.specs.declared.option.Option.the-variants.{Some, None}
 use Rattle.std.specs.Options.{isSome}
 use Rattle.std.proofs.shelf.Tests.{and-parts, and-from, not-true, not-from-false}
-use Rattle.rules.specs.Basics.{_∈_, put, the, those}
+use Rattle.rules.specs.Basics.{_∈_, put}
 use Rattle.rules.specs.Stamps.{Stamp}
-use Rattle.rules.specs.Paths.{Axis, X, Y, Z, leg}
+use Rattle.rules.specs.Paths.{Axis, leg}
 use Rattle.rules.specs.Books.{Book, path, break-after}
-use Rattle.rules.specs.Boxes.{Box, Ends, ends, overlap, fails}
+use Rattle.rules.specs.Boxes.{Box}
 use Rattle.rules.specs.Slots.{slot, leg-slot}
-use Rattle.model.specs.Halls.{Craft, Hall, with-book, with-craft, with-bit, with-slot, all-craft, in-hall, others}
-use Rattle.model.specs.Moves.{Out, silent, then, each, on-axes, withdrawn, fired, grant, take-away, nobody, craft-of, ends-of, grant-bit, enter-bit, drop-bit, at-break, grant-leg, read-leg, enter, leave, axis-of, lower-of, higher-of, fire-bit, renew, fire-leg, fire-kind, fire}
+use Rattle.model.specs.Halls.{Craft, Hall, all-craft, in-hall, others}
+use Rattle.model.specs.Moves.{then, each, on-axes, fired, take-away, craft-of, enter-bit, drop-bit, at-break, read-leg, enter, leave, axis-of, lower-of, higher-of, fire-bit, renew, fire-leg}
 use Rattle.accounts.proofs.Puts.{put-here, put-other, same-or-not, those-in, in-those}
 use Rattle.accounts.proofs.Frames.{craft-below, below-craft}
-use Rattle.telling.proofs.Places.{slot-swap, slot-low, slot-axis, slot-lower, slot-higher, slot-other, slot-apart, slot-leg}
-use Rattle.telling.proofs.Effects.{Cell, cell, Written, Wrote, axes-keeps, axes-wrote, ends-in, failing, overlapping, fresh, Amid, Amidst, renewed, enter-axes, drop-axes, renew-each}
+use Rattle.telling.proofs.Places.{slot-axis, slot-lower, slot-higher, slot-other, slot-apart, slot-leg}
+use Rattle.telling.proofs.Effects.{Cell, cell, Written, Wrote, axes-keeps, axes-wrote, failing, fresh, Amid, Amidst, renewed, enter-axes, drop-axes, renew-each}
 
 -- c's slots with the craft of a list hold these cells, and its leg slot this moment; the other slots hold what they held
 pub record Moved (c : ℕ) (ds : List ℕ) (v : Axis → ℕ → Cell) (l : Option Stamp) (m h : Hall) : Type 0 where

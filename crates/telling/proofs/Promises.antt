@@ -1,8 +1,7 @@
 -- The whole promise, over every lawful book and every list of calls.
 use mathlib.Core.List.{List}
-use mathlib.Core.Path.{_≡_, refl, sym, _∙_}
-use Prim.Native.Nat.{ℕ, _≤_}
-use Rattle.rules.specs.Books.{Book, BookChange, file, ride, Lawful}
+use Prim.Native.Nat.{_≤_}
+use Rattle.rules.specs.Books.{Book, file, ride, Lawful}
 use Rattle.model.specs.Halls.{opened}
 use Rattle.model.specs.Calls.{Call}
 use Rattle.model.specs.Histories.{after}

@@ -1,37 +1,34 @@
 -- Reports: between two quiet clocks, with no change, what is told is what happens.
-use mathlib.Core.Bool.{Bool, true, false}
 use mathlib.Core.List.{List, [], _∷_, _++_, append-assoc, append-nil, List·Memᴰ·not-nil, List·Memᴰ·cases-cons}
 use mathlib.Core.Logic.{_⊎_, inl, inr}
 use mathlib.Core.Path.{_≡_, refl, sym, ap, _∙_, subst}
-use Prim.Native.Nat.{ℕ, zero, suc, _≤_, _<_}
+use Prim.Native.Nat.{ℕ, suc, _≤_}
 use Rattle.std.specs.declared.option.Option.{Option}
 use Rattle.std.specs.declared.option.Option.the-variants.{Some, None}
-use Rattle.rules.specs.Basics.{_∈_, InTurn}
-use Rattle.rules.specs.Fractions.{Fraction, Proper, SameTime, Usual}
+use Rattle.rules.specs.Basics.{_∈_}
+use Rattle.rules.specs.Fractions.{Fraction, Usual}
 use Rattle.rules.specs.Stamps.{Stamp}
-use Rattle.rules.specs.Books.{Book, path, Lawful, changed-by}
-use Rattle.rules.specs.Boxes.{Box}
+use Rattle.rules.specs.Books.{Book, Lawful}
 use Rattle.rules.specs.Pages.{News, met, parted, Report, page-of, page-read}
-use Rattle.model.specs.Halls.{Clock, quiet, Hall, State, opened, left, next-due}
+use Rattle.model.specs.Halls.{quiet, Hall, State, opened, left, next-due}
 use Rattle.model.specs.Calls.{Call, changing, setting, stepping, running, resting, touching, listing, asking, Answer}
 use Rattle.model.specs.Refusals.{refusal}
 use Rattle.model.specs.Runs.{run}
 use Rattle.model.specs.Performing.{stepping-to, carried-out, unless, perform}
-use Rattle.model.specs.Histories.{Event, events, after, change-of, if-accepted, changes, book-changes, book-now, boxes-from, boxes-now, clock-now, step-report, page-reports, reports}
-use Rattle.model.specs.Statement.{story, further, Happens, Onward, InOrder, Reports}
+use Rattle.model.specs.Histories.{Event, events, after, change-of, if-accepted, changes, step-report, page-reports, reports}
+use Rattle.model.specs.Statement.{further, Happens, Onward, Reports}
 use Rattle.pages.proofs.Reading.{back}
 use Rattle.events.specs.Machine.{Sky}
 use Rattle.events.specs.Reports.{Reported, Reports-hold, Bits-tell}
 use Rattle.events.specs.Reports as machine
 use Rattle.events.specs.Changes.{Changes-rest}
 use Rattle.accounts.proofs.Agrees.{histories-agree}
-use Rattle.certified.specs.Histories.{sky-of}
 use Rattle.telling.proofs.Skies.{Good}
-use Rattle.telling.proofs.Steps.{Goes, Gone, goes-one, goes-gone, KeptPaths, kept-on, AllPlain, plain-fit, plain-in}
+use Rattle.telling.proofs.Steps.{goes-one, goes-gone, KeptPaths, kept-on, AllPlain, plain-fit, plain-in}
 use Rattle.telling.proofs.Resting.{Resting, Paths-stay}
-use Rattle.telling.proofs.Ways.{Ran-on, run-goes, answer-reports, Way, way-at, way-call}
+use Rattle.telling.proofs.Ways.{run-goes, answer-reports, Way, way-at, way-call}
 use Rattle.telling.proofs.History.{none-left, Inv, inv-gone, inv-call, inv-opened, way-ends, way-begins}
-use Rattle.telling.proofs.Touches.{now, told-sky, inv, sky-is, at-rest}
+use Rattle.telling.proofs.Touches.{now, told-sky, sky-is, at-rest}
 
 pub after-join : (calls more : List Call) (z : State) → after (calls ++ more) z ≡ after more (after calls z)
 after-join [] more z = refl

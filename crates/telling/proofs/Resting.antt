@@ -1,5 +1,5 @@
 -- A hall at rest stays so through every change at its quiet clock.
-use mathlib.Core.Bool.{Bool, true, false, cond}
+use mathlib.Core.Bool.{true, false}
 use mathlib.Core.List.{List, [], _∷_, List·Memᴰ·head, List·Memᴰ·tail}
 use mathlib.Core.Logic.{_⊎_, inl, inr}
 use mathlib.Core.Path.{_≡_, refl, sym, ap, _∙_, subst}
@@ -9,19 +9,19 @@ use Rattle.std.specs.declared.option.Option.{Option}
 use Rattle.std.specs.declared.option.Option.the-variants.{Some, None}
 use Rattle.std.specs.Options.{isSome}
 use Rattle.std.proofs.shelf.Tests.{cases-bool, both-ways}
-use Rattle.rules.specs.Basics.{_∈_, put, the, those}
-use Rattle.rules.specs.Fractions.{Fraction, Proper, Usual}
+use Rattle.rules.specs.Basics.{_∈_, the}
+use Rattle.rules.specs.Fractions.{Fraction, Usual}
 use Rattle.rules.specs.Stamps.{Stamp, at}
-use Rattle.rules.specs.Paths.{Axis, Path, Kept}
+use Rattle.rules.specs.Paths.{Kept}
 use Rattle.rules.specs.Books.{Book, path, follows, BookChange, changed}
 use Rattle.rules.specs.Boxes.{Box}
 use Rattle.model.specs.Halls.{Craft, Hall, with-book, all-craft, in-hall, entered}
-use Rattle.model.specs.Moves.{Out, then, each, nobody, craft-of, enter, leave, craft-set, followers, come-back, change}
-use Rattle.events.specs.Machine.{Sky, Core, Rested, In, Pair}
-use Rattle.events.specs.Changes.{Stays, Remains, Changed, Changes-rest}
-use Rattle.accounts.proofs.Puts.{put-here, put-other, same-or-not, those-in, in-those}
+use Rattle.model.specs.Moves.{each, nobody, craft-of, enter, leave, craft-set, followers, change}
+use Rattle.events.specs.Machine.{Rested}
+use Rattle.events.specs.Changes.{Stays, Changes-rest}
+use Rattle.accounts.proofs.Puts.{put-here, put-other, those-in, in-those}
 use Rattle.accounts.proofs.Frames.{craft-below, below-craft}
-use Rattle.telling.proofs.Effects.{Written, each-keeps, each-written}
+use Rattle.telling.proofs.Effects.{Written, each-written}
 use Rattle.telling.proofs.Moved.{leg-now, enter-amid, leave-amid}
 use Rattle.certified.specs.Histories.{sky-of, core-of}
 use Rattle.accounts.specs.Laws.{box-in}

@@ -1,34 +1,33 @@
 -- The hall's certificates are the machine's, and what always holds of its slots.
-use mathlib.Core.Bool.{Bool, true, false, cond, not, _&&_}
+use mathlib.Core.Bool.{Bool, true, false, cond}
 use mathlib.Core.List.{List, [], _∷_, List·Memᴰ·head, List·Memᴰ·tail}
 use mathlib.Core.Logic.{_⊎_, inl, inr}
 use mathlib.Core.Path.{_≡_, refl, sym, ap, _∙_, subst}
-use Prim.Native.Nat.{ℕ, zero, suc, _+_, _-_, _*_, _/_, _≤_, _<_, min, max}
+use Prim.Native.Nat.{ℕ, zero, suc, _*_, _/_, _≤_, _<_, min, max}
 use native.Mathlib.Omega.{arith}
-use native.Mathlib.Nat.{min-eq-left, min-eq-right, max-eq-right, min-comm, max-comm, mul-le-mul-left}
+use native.Mathlib.Nat.{min-eq-left, min-eq-right, max-eq-right, min-comm, max-comm}
 use lib.IntN.{ℤ, natAbs, _-ℤ_}
 use borrow.Author.Differences.{ints}
 use Rattle.std.specs.declared.option.Option.{Option}
 use Rattle.std.specs.declared.option.Option.the-variants.{Some, None}
 use Rattle.std.specs.Options.{isSome, Cases}
 use Rattle.std.proofs.shelf.Tests.{cases-lt}
-use Rattle.rules.specs.Basics.{_∈_, put, the}
-use Rattle.rules.specs.Fractions.{Fraction, Proper, NotAfter, Usual, Divides, tick, is-before}
+use Rattle.rules.specs.Basics.{_∈_, the}
+use Rattle.rules.specs.Fractions.{Fraction, Proper, NotAfter, Usual, tick, is-before}
 use Rattle.rules.specs.Stamps.{Stamp, at}
-use Rattle.rules.specs.Paths.{Axis, X, Y, Z, Path, leg, Kept, first-after, min-with}
-use Rattle.rules.specs.Books.{Book, path, break-after}
-use Rattle.rules.specs.Boxes.{Box, Ends, ends, overlap, fails, Fails}
+use Rattle.rules.specs.Paths.{Axis, Path, leg, Kept, first-after, min-with}
+use Rattle.rules.specs.Boxes.{Box, ends, overlap, fails, Fails}
 use Rattle.rules.specs.Slots.{slot, leg-slot}
 use Rattle.model.specs.Halls.{Craft, Hall, in-hall, others}
 use Rattle.model.specs.Moves.{nobody, craft-of, at-break}
 use Rattle.geometry_laws.specs.Certificates.{Slow}
 use Rattle.geometry_laws.proofs.Certificates.{certificates-right, certificates-usual}
-use Rattle.events.specs.Machine.{Sky, flies, box-of, Pair, In, Core, Certified}
+use Rattle.events.specs.Machine.{Pair, Certified}
 use Rattle.events.specs.Machine as machine
 use Rattle.certified.specs.Histories.{sky-of, core-of}
 use Rattle.accounts.specs.Laws.{box-in}
-use Rattle.accounts.proofs.Puts.{put-here, put-other, same-or-not}
-use Rattle.telling.proofs.Places.{slot-swap, slot-low, slot-leg, in-order}
+use Rattle.accounts.proofs.Puts.{same-or-not}
+use Rattle.telling.proofs.Places.{slot-swap, in-order}
 use Rattle.telling.proofs.Effects.{Cell, cell, Wrote, ends-in, failing, overlapping, fresh}
 use Rattle.telling.proofs.Moved.{Moved, Other, others-out, others-in}
 

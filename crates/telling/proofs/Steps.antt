@@ -1,30 +1,30 @@
 -- Steps: what is due is what fails first, and a chain of steps is a run of the machine.
-use mathlib.Core.Bool.{Bool, true, false, cond, not, _&&_}
-use mathlib.Core.List.{List, [], _∷_, _++_, append-assoc, List·Memᴰ·head, List·Memᴰ·not-nil, List·Memᴰ·cases-cons}
+use mathlib.Core.Bool.{Bool, true, false, cond}
+use mathlib.Core.List.{List, [], _∷_, _++_, append-assoc, List·Memᴰ·not-nil, List·Memᴰ·cases-cons}
 use mathlib.Core.Logic.{_⊎_, inl, inr}
 use mathlib.Core.Path.{_≡_, refl, sym, ap, _∙_, subst}
-use Prim.Native.Nat.{ℕ, zero, suc, _+_, _-_, _*_, _/_, _%_, _^_, _≤_, _<_}
+use Prim.Native.Nat.{ℕ, _-_, _^_, _≤_, _<_}
 use native.Mathlib.Omega.{arith}
 use lib.Dec.{ltb}
 use borrow.Author.Tests.{lt-ltb, le-ltb}
 use Rattle.std.specs.declared.option.Option.{Option}
 use Rattle.std.specs.declared.option.Option.the-variants.{Some, None}
-use Rattle.std.proofs.shelf.Tests.{cases-lt, cases-bool, both-ways}
+use Rattle.std.proofs.shelf.Tests.{cases-bool, both-ways}
 use Rattle.rules.specs.Basics.{_∈_}
-use Rattle.rules.specs.Fractions.{Fraction, Proper, NotAfter, Usual, tick}
+use Rattle.rules.specs.Fractions.{Fraction, Proper, Usual}
 use Rattle.rules.specs.Stamps.{Stamp, at, is-earlier}
 use Rattle.rules.specs.Paths.{Axis, Kept}
 use Rattle.rules.specs.Books.{Book, path}
-use Rattle.rules.specs.Slots.{slot, leg-slot, Queue, first, First, LeastSlot}
+use Rattle.rules.specs.Slots.{slot, leg-slot, first, First, LeastSlot}
 use Rattle.rules.specs.Pages.{News, met, parted, Report}
 use Rattle.model.specs.Halls.{Hall, in-hall, together, due-by, next-due}
-use Rattle.model.specs.Moves.{Out, lower-of, higher-of, fired, take-away, then, fire-bit, fire-leg, fire-kind, fire}
+use Rattle.model.specs.Moves.{lower-of, higher-of, fired, take-away, then, fire-leg, fire-kind, fire}
 use Rattle.model.specs.Runs.{news, news-in, step}
 use Rattle.model.specs.Histories.{stepped-with}
 use Rattle.pages.specs.Laws.{Craft-fit, Report-fits, Reports-fit}
 use Rattle.queues.specs.Laws.{Held}
 use Rattle.queues.proofs.Firsts.{first-right, soonest-first, some-none, some-some, not-earlier-chain}
-use Rattle.events.specs.Machine.{Sky, Core, None-before, Quiet, Fires, bit-fires, leg-fires, Runs}
+use Rattle.events.specs.Machine.{Sky, Quiet, Fires, bit-fires, leg-fires, Runs}
 use Rattle.events.specs.Machine as machine
 use Rattle.telling.proofs.Places.{slot-low, slot-lower, slot-higher}
 use Rattle.telling.proofs.Moved.{leg-amidst}

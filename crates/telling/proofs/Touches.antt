@@ -1,29 +1,28 @@
 -- Touching: at a quiet clock the question and the list tell which boxes touch.
-use mathlib.Core.Bool.{Bool, true, false, cond, not, _&&_, _||_}
+use mathlib.Core.Bool.{Bool, true, not, _&&_, _||_}
 use mathlib.Core.List.{List, [], _∷_, _++_, map, List·Memᴰ·head, List·Memᴰ·tail, List·Memᴰ·not-nil, List·Memᴰ·cases-cons, List·Memᴰ·append-cases, Memᴰ·append-left, Memᴰ·append-right, Memᴰ·of-map, Memᴰ·map}
 use mathlib.Core.Logic.{_⊎_, inl, inr, _↔_}
-use mathlib.Core.Path.{_≡_, refl, sym, ap, _∙_, subst}
-use Prim.Native.Nat.{ℕ, zero, suc, _+_, _*_, _≤_, _<_}
+use mathlib.Core.Path.{_≡_, refl, sym, _∙_, subst}
+use Prim.Native.Nat.{ℕ, _+_, _*_, _≤_, _<_}
 use native.Mathlib.Omega.{arith}
 use lib.Dec.{eqb, ltb}
 use Rattle.std.specs.declared.option.Option.{Option}
 use Rattle.std.specs.declared.option.Option.the-variants.{Some, None}
 use Rattle.std.specs.Options.{isSome}
 use Rattle.std.specs.Orderings.{Decides}
-use Rattle.std.proofs.shelf.Tests.{and-parts, and-from, or-parts, not-false, eqb-false, ltb-true, lt-ltb, leb-false}
+use Rattle.std.proofs.shelf.Tests.{and-parts, and-from, not-false, eqb-false, ltb-true, lt-ltb}
 use Rattle.rules.specs.Basics.{_∈_, those, joined, InTurn}
-use Rattle.rules.specs.Fractions.{Fraction, Proper, NotAfter, Usual}
-use Rattle.rules.specs.Paths.{Axis, X, Y, Z, Path, Kept}
-use Rattle.rules.specs.Books.{Book, path, Lawful, changed-by, out-of-range}
+use Rattle.rules.specs.Fractions.{Fraction, Usual}
+use Rattle.rules.specs.Paths.{X, Y, Z, Path}
+use Rattle.rules.specs.Books.{Book, path, Lawful, out-of-range}
 use Rattle.rules.specs.Boxes.{Box, Touch}
-use Rattle.rules.specs.Slots.{slot}
 use Rattle.model.specs.Halls.{quiet, Craft, Hall, State, opened, all-craft, in-hall, entered, together}
-use Rattle.model.specs.Calls.{Call, touching, listing, done, touches, Reply, refused, accepted}
+use Rattle.model.specs.Calls.{Call, touching, listing, done, touches, accepted}
 use Rattle.model.specs.Refusals.{pairs-of, pairs, refusal}
-use Rattle.model.specs.Performing.{unless, perform}
-use Rattle.model.specs.Histories.{Event, events, after, changes, book-changes, book-now, boxes-from, boxes-now, clock-now}
-use Rattle.model.specs.Statement.{story, next-answer, OfPair, TouchAt, Touching}
-use Rattle.events.specs.Machine.{Sky, Core, Rested}
+use Rattle.model.specs.Performing.{unless}
+use Rattle.model.specs.Histories.{after, changes, book-changes, book-now, boxes-now, clock-now}
+use Rattle.model.specs.Statement.{story, next-answer, TouchAt, Touching}
+use Rattle.events.specs.Machine.{Sky, Rested}
 use Rattle.events.specs.Reports.{Reports-hold, Bits-tell}
 use Rattle.events.specs.Changes.{Changes-rest}
 use Rattle.accounts.proofs.Agrees.{histories-agree}

@@ -1,9 +1,9 @@
 -- On from a hall at rest, call after call with no change: the steps made so far are one chain, and tell what the answers tell.
 use mathlib.Core.Bool.{Bool, true, false, cond, not, _&&_, _||_}
-use mathlib.Core.List.{List, [], _∷_, _++_, append-assoc, append-nil}
-use mathlib.Core.Logic.{_⊎_, inl, inr}
+use mathlib.Core.List.{List, [], _++_, append-nil}
+use mathlib.Core.Logic.{inl, inr}
 use mathlib.Core.Path.{_≡_, refl, sym, ap, _∙_, subst}
-use Prim.Native.Nat.{ℕ, zero, suc, _+_, _-_, _*_, _≤_, _<_}
+use Prim.Native.Nat.{ℕ, zero, suc, _-_, _*_, _≤_, _<_}
 use native.Mathlib.Omega.{arith}
 use lib.Dec.{eqb, ltb}
 use lib.ListN.{length}
@@ -11,22 +11,22 @@ use Rattle.std.specs.declared.option.Option.{Option}
 use Rattle.std.specs.declared.option.Option.the-variants.{Some, None}
 use Rattle.std.specs.Options.{isSome}
 use Rattle.std.proofs.shelf.Tests.{and-parts, or-parts, eqb-true, eqb-false, ltb-false, not-false, both-ways}
-use Rattle.rules.specs.Basics.{the, first-fit}
-use Rattle.rules.specs.Fractions.{Fraction, Proper, NotAfter, Usual, Least, is-same, least, tick, no-time}
+use Rattle.rules.specs.Basics.{the}
+use Rattle.rules.specs.Fractions.{Fraction, NotAfter, Usual, is-same, least, no-time}
 use Rattle.rules.specs.Stamps.{Stamp, Earlier, at, is-earlier}
-use Rattle.rules.specs.Pages.{News, Report, page-of, page-read, news-record}
+use Rattle.rules.specs.Pages.{News, Report, page-of, page-read}
 use Rattle.rules.proofs.Order.{not-after-trans}
 use Rattle.rules.proofs.Made.{least-terms, least-inside}
 use Rattle.model.specs.Halls.{Clock, quiet, due, Hall, State, left, next-due}
-use Rattle.model.specs.Calls.{Change, Call, changing, setting, stepping, running, resting, touching, listing, asking, Reply, refused, accepted, Answer, only}
-use Rattle.model.specs.Refusals.{same-clock, not-mine, rows, refusal}
-use Rattle.model.specs.Runs.{Step, step, records, Ran, ended-with, and-then, ending, step-on, run-on, run-in, run}
+use Rattle.model.specs.Calls.{Call, changing, setting, stepping, running, resting, touching, listing, asking, Answer}
+use Rattle.model.specs.Refusals.{same-clock, refusal}
+use Rattle.model.specs.Runs.{step, records, Ran, and-then, ending, run-on, run-in, run}
 use Rattle.model.specs.Performing.{stepping-to, carried-out, unless, perform}
-use Rattle.model.specs.Histories.{Event, events, after, change-of, if-accepted, changes, clock-given, clock-from, stepped-with, step-report, page-reports, reports}
+use Rattle.model.specs.Histories.{change-of, if-accepted, stepped-with, step-report, page-reports}
 use Rattle.pages.proofs.Reading.{back}
 use Rattle.queues.proofs.Firsts.{not-earlier-test, some-none}
 use Rattle.telling.proofs.Skies.{Good}
-use Rattle.telling.proofs.Steps.{Goes, stop, more, told-by, next-hall, goes-join, goes-later, Gone, goes-gone, KeptPaths, kept-on, AllPlain, plain-fit, due-first, fires-due}
+use Rattle.telling.proofs.Steps.{Goes, stop, more, told-by, next-hall, goes-join, goes-later, goes-gone, KeptPaths, kept-on, AllPlain, plain-fit, due-first, fires-due}
 
 -- ---- small facts
 -- no row fits: this one does not, nor any after it
