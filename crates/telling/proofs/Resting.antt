@@ -4,27 +4,25 @@ use mathlib.Core.List.{List, [], _∷_, List·Memᴰ·head, List·Memᴰ·tail}
 use mathlib.Core.Logic.{_⊎_, inl, inr}
 use mathlib.Core.Path.{_≡_, refl, sym, ap, _∙_, subst}
 use Prim.Native.Nat.{ℕ, _≤_, _<_}
-use native.Mathlib.Omega.{arith}
 use Rattle.std.specs.declared.option.Option.{Option}
-use Rattle.std.specs.declared.option.Option.the-variants.{Some, None}
+use Rattle.std.specs.declared.option.Option.the-variants.{None}
 use Rattle.std.specs.Options.{isSome}
 use Rattle.std.proofs.shelf.Tests.{cases-bool, both-ways}
-use Rattle.rules.specs.Basics.{_∈_, the}
+use Rattle.rules.specs.Basics.{_∈_}
 use Rattle.rules.specs.Fractions.{Fraction, Usual}
 use Rattle.rules.specs.Stamps.{Stamp, at}
 use Rattle.rules.specs.Paths.{Kept}
 use Rattle.rules.specs.Books.{Book, path, follows, BookChange, changed}
 use Rattle.rules.specs.Boxes.{Box}
 use Rattle.model.specs.Halls.{Craft, Hall, with-book, all-craft, in-hall, entered}
-use Rattle.model.specs.Moves.{each, nobody, craft-of, enter, leave, craft-set, followers, change}
+use Rattle.model.specs.Moves.{each, craft-of, enter, leave, craft-set, followers, change}
 use Rattle.events.specs.Machine.{Rested}
 use Rattle.events.specs.Changes.{Stays, Changes-rest}
 use Rattle.accounts.proofs.Puts.{put-here, put-other, those-in, in-those}
 use Rattle.accounts.proofs.Frames.{craft-below, below-craft}
 use Rattle.telling.proofs.Effects.{Written, each-written}
-use Rattle.telling.proofs.Moved.{leg-now, enter-amid, leave-amid}
+use Rattle.telling.proofs.Moved.{enter-amid, leave-amid}
 use Rattle.certified.specs.Histories.{sky-of, core-of}
-use Rattle.accounts.specs.Laws.{box-in}
 use Rattle.telling.proofs.Skies.{Good}
 use Rattle.telling.proofs.Firing.{flying}
 use Rattle.telling.proofs.Steps.{KeptPaths, kept-on}
@@ -73,7 +71,7 @@ module _ (rest : Changes-rest) (w : ℕ) (w8 : w ≤ 8) (t : Fraction) (ut : Usu
   enter-all f [] low m r = r
   enter-all f (d ∷ ds) low m r = enter-all f ds (λ e p. low e (List·Memᴰ·tail p)) (enter d (f d) (at t) m .hall) (enter-rests m d (f d) (low d (List·Memᴰ·head refl)) r)
 
--- ---- the book and the boxes after each
+-- ---- the book after each, and who is out
 leave-book : (ds : List ℕ) (m : Hall) → each leave ds m .hall .book ≡ m .book
 leave-book [] m = refl
 leave-book (d ∷ ds) m = leave-book ds (leave d m .hall) ∙ leave-amid d m .0
@@ -86,11 +84,6 @@ left-boxes : (ds : List ℕ) (m : Hall) (s : ℕ) → Written ds (λ d. d) (λ d
 left-boxes ds m s = each-written leave (λ h. h .craft) (λ h. Unit {0}) (λ d. d) (λ d. None) (λ d h i. tt)
     (λ d h i. (λ j. leave-amid d h .1 j d) ∙ put-here (h .craft) d None)
     (λ d h i e n. (λ j. leave-amid d h .1 j e) ∙ put-other (h .craft) d None e n) ds m tt s
-
-back-boxes : (f : ℕ → Box) (k : Stamp) (ds : List ℕ) (m : Hall) (s : ℕ) → Written ds (λ d. d) (λ d. Some (f d)) (λ d. box-in (m .craft d)) (λ d. box-in (each (λ d. enter d (f d) k) ds m .hall .craft d)) s
-back-boxes f k ds m s = each-written (λ d. enter d (f d) k) (λ h d. box-in (h .craft d)) (λ h. Unit {0}) (λ d. d) (λ d. Some (f d)) (λ d h i. tt)
-    (λ d h i. ap box-in ((λ j. enter-amid d (f d) k h .1 j d) ∙ put-here (h .craft) d (Some (leg-now d (f d) k h))))
-    (λ d h i e n. ap box-in ((λ j. enter-amid d (f d) k h .1 j e) ∙ put-other (h .craft) d (Some (leg-now d (f d) k h)) e n)) ds m tt s
 
 -- ---- followers
 pub record Follower (c : ℕ) (m : Hall) (d : ℕ) : Type 0 where
@@ -107,10 +100,6 @@ followers-out c m d e =
 followers-in : (c : ℕ) (m : Hall) (d : ℕ) → Follower c m d → d ∈ followers c m
 followers-in c m d f = in-those (follows (m .book) c) (entered m) d (in-those (in-hall m) all-craft d (below-craft d (f .low)) (f .here)) (f .after)
 
-box-back : (o : Option Craft) → isSome o ≡ true → Some (the nobody o .box) ≡ box-in o
-box-back None e = let z : _≡_ {A = ℕ} 0 1 = cc in absurd (omega arith)
-box-back (Some x) e = refl
-
 -- ---- a change of the book
 module _ (x : BookChange) (k : Stamp) (m : Hall) where
   abbrev left-hall : Hall
@@ -121,15 +110,6 @@ module _ (x : BookChange) (k : Stamp) (m : Hall) where
 
   pub change-book : change x k m .hall .book ≡ changed x (m .book)
   change-book = enter-book (λ d. craft-of d m .box) k (followers (craft-set x) m) open-hall ∙ ap (changed x) (leave-book (followers (craft-set x) m) m)
-
-  pub change-boxes : (d : ℕ) → box-in (change x k m .hall .craft d) ≡ box-in (m .craft d)
-  change-boxes d = by (back-boxes (λ d. craft-of d m .box) k (followers (craft-set x) m) open-hall d) (left-boxes (followers (craft-set x) m) m d)
-    where
-      by : Written (followers (craft-set x) m) (λ d. d) (λ d. Some (craft-of d m .box)) (λ d. box-in (left-hall .craft d)) (λ d. box-in (change x k m .hall .craft d)) d →
-          Written (followers (craft-set x) m) (λ d. d) (λ d. None) (m .craft) (left-hall .craft) d → box-in (change x k m .hall .craft d) ≡ box-in (m .craft d)
-      by (inl e) l = e .3 ∙ box-back (m .craft (e .0)) (followers-out (craft-set x) m (e .0) (e .1) .here) ∙ ap (λ (y : ℕ). box-in (m .craft y)) (sym (e .2))
-      by (inr e) (inl l) = absurd (e .0 (l .0) (l .1) (l .2))
-      by (inr e) (inr l) = e .1 ∙ ap box-in (l .1)
 
   -- whoever is entered while the followers are out does not follow
   out-paths : Paths-stay → ((c : ℕ) → in-hall m c ≡ true → c < 64) → (d : ℕ) → in-hall left-hall d ≡ true → path (changed x (left-hall .book)) d ≡ path (left-hall .book) d
