@@ -1,0 +1,10 @@
+pub mod Halls
+pub mod Moves
+pub mod Calls
+pub mod Refusals
+pub mod Runs
+pub mod Performing
+pub mod Histories
+pub mod Statement
+pub mod Show
+pub mod Laws
