@@ -1,0 +1,5 @@
+pub mod Of
+pub mod Axes
+pub mod Lines
+pub mod Laws
+pub mod Routes
