@@ -1,8 +1,10 @@
 //! What the hall keeps of a craft.
 ghost use mathlib.Core.Path.{_≡_};
-ghost use Rattle.geometry.specs.Of.{axis-of, box-of, line-of};
-ghost use Rattle.plans.specs.Of.{legs-told};
-ghost use Rattle.tables.specs.Crafts.{record-of, record-in, with-legs, turned, nobody};
+ghost use Rattle.geometry.specs.Of.{axis-of, box-of};
+ghost use Rattle.plans.specs.Lines.{line-of};
+ghost use Rattle.plans.specs.Routes.{answer-of};
+ghost use Rattle.tables.specs.Crafts.{record-of, record-in, with-legs, turned};
+ghost use Rattle.model.specs.Moves.{nobody};
 
 use geometry::Axis;
 use geometry::HalfSizes;
@@ -20,7 +22,7 @@ pub struct CraftRecord {
 impl CraftRecord {
     /// The record of a craft with this box on the legs that a book told.
     pub fn new(half: HalfSizes, legs: LegAnswer) -> CraftRecord
-        ensures { λ r. ⌜ record-of r ≡ with-legs (box-of half) (legs-told legs) ⌝ }
+        ensures { λ r. ⌜ record-of r ≡ with-legs (box-of half) (answer-of legs .0) ⌝ }
     {
         CraftRecord { half, x: legs.x, y: legs.y, z: legs.z }
     }
@@ -45,7 +47,7 @@ impl CraftRecord {
 
     /// Takes the legs that a book told; the box stays.
     pub fn turn(&mut self, legs: LegAnswer)
-        ensures { λ _. ⌜ record-of (now (self .exit)) ≡ with-legs (record-of (now (self .entry)) .box) (legs-told legs) ⌝ }
+        ensures { λ _. ⌜ record-of (now (self .exit)) ≡ with-legs (record-of (now (self .entry)) .box) (answer-of legs .0) ⌝ }
     {
         self.x = legs.x;
         self.y = legs.y;
@@ -55,7 +57,7 @@ impl CraftRecord {
 
 /// The craft of a place in the table takes the legs that a book told.
 pub fn turn_place(place: &mut Option<CraftRecord>, legs: LegAnswer)
-    ensures { λ _. ⌜ record-in (now (place .exit)) ≡ turned (legs-told legs) (record-in (now (place .entry))) ⌝ }
+    ensures { λ _. ⌜ record-in (now (place .exit)) ≡ turned (answer-of legs .0) (record-in (now (place .entry))) ⌝ }
 {
     match place {
         Some(craft) => craft.turn(legs),

@@ -1,0 +1,3 @@
+pub mod sizes;
+pub use sizes::Axis;
+pub use sizes::HalfSizes;
