@@ -78,12 +78,16 @@ certificate-in s m = cond (eqb (m .number s) 0) None (Some (record { number = m 
 abbrev pub in-hall : Hall → ℕ → Bool
 in-hall m c = isSome (m .craft c)
 
+-- all craft, ascending (shut, so that no goal spells out the 64)
+unfoldable pub all-craft : List ℕ
+all-craft = below 64
+
 -- the entered craft, ascending; and those of them that are not c
 abbrev pub entered : Hall → List ℕ
-entered m = those (in-hall m) (below 64)
+entered m = those (in-hall m) all-craft
 
 abbrev pub others : ℕ → Hall → List ℕ
-others c m = those (λ d. in-hall m d && not (eqb d c)) (below 64)
+others c m = those (λ d. in-hall m d && not (eqb d c)) all-craft
 
 -- by the bits two craft overlap when all three of theirs are set
 abbrev pub together : ℕ → ℕ → Hall → Bool

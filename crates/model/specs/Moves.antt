@@ -128,13 +128,13 @@ higher-of s = s % 64
 abbrev pub fire-bit : ℕ → Stamp → Hall → Out
 fire-bit s k m = grant-bit (axis-of s) (lower-of s) (higher-of s) k (with-bit s (not (m .bit s)) m)
 
--- on an axis, all of a craft's certificates are withdrawn, then granted anew; no bit changes
-abbrev pub renew : ℕ → Stamp → Axis → Hall → Out
-renew c k a m = then (each (λ d. take-away withdrawn (slot a c d)) (others c m)) (each (λ d. grant-bit a c d k) (others c m)) m
+-- on an axis, the certificates of c with each of ds are withdrawn, then granted anew; no bit changes
+abbrev pub renew : ℕ → List ℕ → Stamp → Axis → Hall → Out
+renew c ds k a = then (each (λ d. take-away withdrawn (slot a c d)) ds) (each (λ d. grant-bit a c d k) ds)
 
 -- firing a leg certificate: the leg is read anew
 abbrev pub fire-leg : ℕ → Stamp → Hall → Out
-fire-leg c k m = then (on-axes (renew c k)) (grant-leg c k) (read-leg c (craft-of c m .box) k m)
+fire-leg c k m = then (on-axes (renew c (others c m) k)) (grant-leg c k) (read-leg c (craft-of c m .box) k m)
 
 abbrev pub fire-kind : (bit : Bool) → ℕ → Stamp → Hall → Out
 fire-kind true s = fire-bit s

@@ -6,12 +6,12 @@ use lib.Dec.{eqb, ltb}
 use lib.ListN.{length}
 use Rattle.std.specs.declared.option.Option.{Option}
 use Rattle.std.specs.Options.{isSome}
-use Rattle.rules.specs.Basics.{those, joined, below, first-fit}
+use Rattle.rules.specs.Basics.{those, joined, first-fit}
 use Rattle.rules.specs.Fractions.{is-same, is-before, no-time}
 use Rattle.rules.specs.Books.{Book, out-of-range, book-rows}
 use Rattle.rules.specs.Boxes.{box-right}
 use Rattle.rules.specs.Slots.{Queue, first}
-use Rattle.model.specs.Halls.{Clock, quiet, due, Hall, State, in-hall, entered, together, left, next-due}
+use Rattle.model.specs.Halls.{Clock, quiet, due, Hall, State, all-craft, in-hall, entered, together, left, next-due}
 use Rattle.model.specs.Calls.{Change, entering, leaving, booking, Call, changing, setting, stepping, running, resting, touching, listing, asking}
 
 -- clocks are compared as plain numbers
@@ -26,7 +26,7 @@ not-mine z k = not (same-clock k (z .clock))
 
 -- the touching pairs as list entries, ascending
 abbrev pub pairs-of : Hall → ℕ → List ℕ
-pairs-of m c = map (λ d. c * 64 + d) (those (λ d. ltb c d && in-hall m d && together c d m) (below 64))
+pairs-of m c = map (λ d. c * 64 + d) (those (λ d. ltb c d && in-hall m d && together c d m) all-craft)
 
 abbrev pub pairs : Hall → List ℕ
 pairs m = joined (map (pairs-of m) (entered m))
