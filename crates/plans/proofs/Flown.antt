@@ -93,7 +93,7 @@ gone-stays (l ∷ ls) end a i j r h k =
 -- LINES
 
 -- the line of a function of ticks, as a pair
-abbrev of-places : (ℕ → ℤ) → ℕ → ℤ × ℤ
+abbrev pub of-places : (ℕ → ℤ) → ℕ → ℤ × ℤ
 of-places p i = (p i -ℤ ((p (suc i) -ℤ p i) *ℤ pos i), p (suc i) -ℤ p i)
 
 pair-≡ : (x y z w : ℤ) → x ≡ z → y ≡ w → _≡_ {A = ℤ × ℤ} (x, y) (z, w)

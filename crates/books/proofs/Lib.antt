@@ -1,0 +1,4 @@
+pub mod Sums
+pub mod Owns
+pub mod Followers
+pub mod Plains

@@ -1,0 +1,5 @@
+pub mod Told
+pub mod Right
+pub mod Laws
+pub mod Routes
+pub mod Plain
