@@ -8,7 +8,7 @@ use lib.Dec.{eqb}
 use Rattle.std.proofs.shelf.Tests.{cases-eq, cases-bool, ne-eqb}
 use Rattle.heap_queue.specs.declared.tree.Tree.{Tree}
 use Rattle.heap_queue.specs.Heaps.{up, slot-of, place-of, absent, Placed, Indexed, Ordered, IndexedBut, OrderedBut, Below, Above, LeastChild, Filled, SamePlaced, SamePlacedBut}
-use Rattle.heap_queue.proofs.Orders.{Laws}
+use Rattle.heap_queue.specs.Orders.{Laws}
 
 module _ (before : ℕ → ℕ → Bool) (laws : Laws before) where
   pub itself : (i : ℕ) → before i i ≡ false

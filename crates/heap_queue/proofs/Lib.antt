@@ -1,3 +1,6 @@
 pub mod Orders
 pub mod Tables
 pub mod Gaps
+pub mod Pigeons
+pub mod Places
+pub mod Holdings

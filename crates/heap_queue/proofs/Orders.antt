@@ -1,27 +1,18 @@
 -- Slots are totally ordered by moment, then by slot.
 use mathlib.Core.Path.{_≡_, refl, sym, ap, _∙_, subst}
 use mathlib.Core.Bool.{Bool, true, false, cond, not, _&&_, _||_}
-use mathlib.Core.List.{List, [], _∷_}
 use mathlib.Core.Logic.{_⊎_, inl, inr, ⊎-elim}
 use Prim.Native.Nat.{ℕ, zero, suc, _≤_, _<_}
 use native.Mathlib.Omega.{arith}
-use lib.Dec.{ltb, eqb}
-use lib.ListN.{length, getD, set}
-use Rattle.std.proofs.shelf.Tests.{cases-bool, both-ways, or-parts, or-from, and-cases, and-left, and-right, not-false, not-from-true, ltb-false, le-ltb}
-use Rattle.rules.specs.Fractions.{Proper, Usual}
+use lib.Dec.{ltb}
+use Rattle.std.proofs.shelf.Tests.{cases-bool, both-ways, or-parts, or-from, and-cases, and-left, and-right, not-false, not-from-true, ltb-false, le-ltb, cases-lt}
+use Rattle.rules.specs.Fractions.{Proper}
 use Rattle.rules.specs.Stamps.{Stamp, is-earlier}
-use Rattle.times.specs.declared.moment.Moment.{Moment}
-use Rattle.times.specs.Of.{moment-of}
 use Rattle.queues.proofs.Firsts.{not-earlier-chain, earlier-apart}
-use Rattle.heap_queue.specs.Orders.{stamp-at, ranks-before, comes-before}
-
--- what an order of slots keeps
-pub record Laws (before : ℕ → ℕ → Bool) : Type 0 where
-  pub apart : (i j : ℕ) → before i j ≡ true → before j i ≡ false
-  pub chain : (i j k : ℕ) → before j i ≡ false → before k j ≡ false → before k i ≡ false
+use Rattle.heap_queue.specs.Orders.{ranks-before, comes-before, Laws}
 
 -- a rank that is not before, taken apart and put together
-rank-out : (x y : Bool) (i j : ℕ) → (x || (not y && ltb i j)) ≡ false → (x ≡ false) × ((y ≡ true) ⊎ (j ≤ i))
+pub rank-out : (x y : Bool) (i j : ℕ) → (x || (not y && ltb i j)) ≡ false → (x ≡ false) × ((y ≡ true) ⊎ (j ≤ i))
 rank-out x y i j h =
     let p = or-parts x (not y && ltb i j) h in
     (p .0, ⊎-elim (λ e. inl (not-false y e)) (λ e. inr (ltb-false i j e)) (and-cases (not y) (ltb i j) (p .1)))
@@ -36,7 +27,7 @@ apart-of false true i j a h = absurd (both-ways false refl h)
 apart-of false false i j a h = ⊎-elim (λ t. rank-in false false j i refl (inr (lower t))) (λ f. absurd (both-ways (ltb i j) f h)) (cases-bool (ltb i j))
   where
     lower : ltb i j ≡ true → i ≤ j
-    lower t = ⊎-elim (λ e. absurd (both-ways (ltb i j) e t)) (λ l. l) (go (Rattle.std.proofs.shelf.Tests.cases-lt i j))
+    lower t = ⊎-elim (λ e. absurd (both-ways (ltb i j) e t)) (λ l. l) (go (cases-lt i j))
       where
         go : (i < j) ⊎ (j ≤ i) → (ltb i j ≡ false) ⊎ (i ≤ j)
         go (inl l) = inr (omega arith)

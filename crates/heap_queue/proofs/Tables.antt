@@ -9,8 +9,8 @@ use Rattle.rules.specs.Fractions.{Proper, Usual}
 use Rattle.rules.specs.Stamps.{Stamp}
 use Rattle.times.specs.declared.moment.Moment.{Moment}
 use Rattle.times.specs.Of.{moment-of}
-use Rattle.heap_queue.specs.Orders.{stamp-at, comes-before}
-use Rattle.heap_queue.proofs.Orders.{Laws, order-laws}
+use Rattle.heap_queue.specs.Orders.{stamp-at, comes-before, Laws}
+use Rattle.heap_queue.proofs.Orders.{order-laws}
 
 pub stamp-read : (ms : List Moment) (k : ℕ) (d : Moment) → k < length ms → moment-of (getD ms k d) ≡ stamp-at ms k
 stamp-read [] k d h = absurd (omega arith)

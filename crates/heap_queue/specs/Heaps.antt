@@ -9,6 +9,7 @@ use Rattle.std.specs.declared.option.Option.{Option}
 use Rattle.std.specs.declared.option.Option.the-variants.{Some, None}
 use Rattle.rules.specs.Stamps.{Stamp}
 use Rattle.heap_queue.specs.declared.tree.Tree.{Tree}
+use Rattle.heap_queue.specs.Orders.{Laws}
 
 -- the parent of place k, but for place 0
 abbrev pub up : ℕ → ℕ
@@ -29,14 +30,22 @@ absent t k = eqb (place-of t k) 65535
 abbrev pub Placed : Tree → ℕ → Type 0
 Placed t k = place-of t k ≡ 65535 → ⊥
 
--- heap and index are inverse
+-- heap and index are inverse: what stands at the heap's places are slots, and they have these places;
+-- the places of slots are the heap's, and these slots stand there
+abbrev pub Slots : Tree → Type 0
+Slots t = (i : ℕ) → i < t .len → slot-of t i < 12352
+
+abbrev pub Places : Tree → Type 0
+Places t = (i : ℕ) → i < t .len → place-of t (slot-of t i) ≡ i
+
+abbrev pub Within : Tree → Type 0
+Within t = (k : ℕ) → k < 12352 → Placed t k → place-of t k < t .len
+
+abbrev pub Found : Tree → Type 0
+Found t = (k : ℕ) → k < 12352 → Placed t k → slot-of t (place-of t k) ≡ k
+
 abbrev pub Indexed : Tree → Type 0
-Indexed t =
-    (t .len ≤ 12352)
-    × ((i : ℕ) → i < t .len → slot-of t i < 12352)
-    × ((i : ℕ) → i < t .len → place-of t (slot-of t i) ≡ i)
-    × ((k : ℕ) → k < 12352 → Placed t k → place-of t k < t .len)
-    × ((k : ℕ) → k < 12352 → Placed t k → slot-of t (place-of t k) ≡ k)
+Indexed t = (t .len ≤ 12352) × Slots t × Places t × Within t × Found t
 
 -- no slot comes before its parent's
 abbrev pub Ordered : (ℕ → ℕ → Bool) → Tree → Type 0
@@ -99,6 +108,20 @@ SamePlaced t u = (k : ℕ) → absent u k ≡ absent t k
 
 abbrev pub SamePlacedBut : Tree → Tree → ℕ → Type 0
 SamePlacedBut t u hand = (k : ℕ) → (k ≡ hand → ⊥) → absent u k ≡ absent t k
+
+-- u is t with a gap, in whatever order
+abbrev pub Opened : Tree → Tree → ℕ → Type 0
+Opened t u gap = (before : ℕ → ℕ → Bool) → Laws before → Ordered before t → OrderedBut before u gap
+
+-- a slot is taken out of t: nothing is left to do, or the gap at place p .0 is to be filled by the slot p .1
+abbrev pub Whole : Tree → Tree → Type 0
+Whole t u = Indexed u × ((before : ℕ → ℕ → Bool) → Ordered before t → Ordered before u)
+
+pub record Vacant (t u : Tree) (slot : ℕ) (p : ℕ × ℕ) : Type 0 where
+  pub index : IndexedBut u (p .0) (p .1)
+  pub order : Opened t u (p .0)
+  pub last : absent u (p .1) ≡ false
+  pub apart : p .1 ≡ slot → ⊥
 
 -- what the tables hold, where f tells each slot's moment
 abbrev pub held : Tree → (ℕ → Stamp) → ℕ → Option Stamp

@@ -1,6 +1,7 @@
 -- The order of slots: by moment, then by slot.
-use mathlib.Core.Bool.{Bool, not, _&&_, _||_}
+use mathlib.Core.Bool.{Bool, true, false, not, _&&_, _||_}
 use mathlib.Core.List.{List, [], _∷_}
+use mathlib.Core.Path.{_≡_}
 use Prim.Native.Nat.{ℕ, zero, suc}
 use lib.Dec.{ltb}
 use Rattle.rules.specs.Fractions.{tick}
@@ -21,3 +22,8 @@ ranks-before m i n j = is-earlier m n || (not (is-earlier n m) && ltb i j)
 -- slot i comes before slot j, where f tells each slot's moment
 unfoldable pub comes-before : (ℕ → Stamp) → ℕ → ℕ → Bool
 comes-before f i j = ranks-before (f i) i (f j) j
+
+-- what an order of slots keeps
+pub record Laws (before : ℕ → ℕ → Bool) : Type 0 where
+  pub apart : (i j : ℕ) → before i j ≡ true → before j i ≡ false
+  pub chain : (i j k : ℕ) → before j i ≡ false → before k j ≡ false → before k i ≡ false

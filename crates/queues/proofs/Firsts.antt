@@ -10,11 +10,11 @@ use Rattle.std.specs.declared.option.Option.{Option}
 use Rattle.std.specs.declared.option.Option.the-variants.{Some, None}
 use Rattle.rules.specs.Fractions.{Proper}
 use Rattle.rules.specs.Stamps.{Stamp, Earlier, NotEarlier, is-earlier}
-use Rattle.rules.specs.Slots.{Queue, First, LeastSlot, first, first-below, sooner}
+use Rattle.rules.specs.Slots.{Queue, First, LeastSlot, first-below, sooner}
 use Rattle.rules.proofs.Ordering.{tests-right}
 use Rattle.rules.proofs.Stamped.{asym, earlier-trans, not-earlier-trans}
-use Rattle.queues.specs.Meanings.{is-nothing}
-use Rattle.queues.specs.Laws.{Held, Firsts-right, Empty-right}
+use Rattle.queues.specs.Meanings.{soonest, is-nothing}
+use Rattle.queues.specs.Laws.{Held, Soonest-first, Firsts-right, Empty-right}
 
 -- the tests of order, as tests
 pub not-earlier : (m k : Stamp) → is-earlier m k ≡ false → NotEarlier m k
@@ -116,8 +116,13 @@ whole q held (Some p) h = record {
     lowest = λ k m e. ⊎-elim (λ l. h .lowest k m l e) (λ l. some-none _ _ (held .within k l) e) (cases-lt k 12352) }
 
 -- the computed answer is the least moment's
-pub first-right : (q : Queue) → Held q → First q (first q)
-first-right q held = whole q held (first q) (best-below q held 12352)
+pub first-right : (q : Queue) → Held q → First q (soonest q)
+unfolding soonest
+first-right q held = whole q held (first-below 12352 q) (best-below q held 12352)
+
+pub soonest-first : Soonest-first
+unfolding soonest
+soonest-first q = refl
 
 -- two answers are one
 pub first-one : (q : Queue) (a b : Option (ℕ × Stamp)) → First q a → First q b → a ≡ b
@@ -132,8 +137,8 @@ first-one q (Some p) (Some r) f g =
     λ i. Some (e i, m i)
 
 -- an answer with the property is the computed one
-pub first-only : (q : Queue) → Held q → (o : Option (ℕ × Stamp)) → First q o → o ≡ first q
-first-only q held o f = first-one q o (first q) f (first-right q held)
+pub first-only : (q : Queue) → Held q → (o : Option (ℕ × Stamp)) → First q o → o ≡ soonest q
+first-only q held o f = first-one q o (soonest q) f (first-right q held)
 
 pub firsts-right : Firsts-right
 firsts-right q held = (first-right q held, first-only q held)
@@ -143,4 +148,8 @@ empties q None f = ((λ _. f), (λ _. refl))
 empties q (Some p) f = ((λ e. absurd (both-ways false refl e)), (λ h. some-none _ _ (h (p .0)) (f .here)))
 
 pub empty-right : Empty-right
-empty-right q held = empties q (first q) (first-right q held)
+empty-right q held = empties q (soonest q) (first-right q held)
+
+-- whether there is a first, from an answer with the property
+pub nothing-is : (q : Queue) → Held q → (o : Option (ℕ × Stamp)) → First q o → is-nothing o ≡ is-nothing (soonest q)
+nothing-is q held o f = ap is-nothing (first-only q held o f)

@@ -8,7 +8,7 @@ use Rattle.std.specs.declared.result.Result.{Result}
 use Rattle.std.specs.declared.result.Result.the-variants.{Ok, Err}
 use Rattle.rules.specs.Basics.{put}
 use Rattle.rules.specs.Stamps.{Stamp}
-use Rattle.rules.specs.Slots.{Queue}
+use Rattle.rules.specs.Slots.{Queue, first}
 use Rattle.times.specs.declared.moment.Moment.{Moment}
 use Rattle.times.specs.declared.refusal.Refusal.{Refusal}
 use Rattle.times.specs.declared.refusal.Refusal.the-variants.{SlotRange}
@@ -25,6 +25,10 @@ answered s x = cond (slot-out s) (Err SlotRange) (Ok x)
 -- what is held after slot s is set or emptied: changed at exactly that slot, or not at all above the last
 abbrev pub changed : Queue → ℕ → Option Stamp → Queue
 changed q s o = cond (slot-out s) q (put q s o)
+
+-- the queue's first answer, kept shut: opened, it is a scan of all slots
+unfoldable pub soonest : Queue → Option (ℕ × Stamp)
+soonest q = first q
 
 -- the code's answers as values
 abbrev pub stored : Option Moment → Option Stamp

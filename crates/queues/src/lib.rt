@@ -5,10 +5,9 @@ ghost use Rattle.std.specs.declared.option.Option.{Option};
 ghost use Rattle.std.specs.declared.option.Option.the-variants.{Some, None};
 ghost use Rattle.rules.specs.Fractions.{Usual};
 ghost use Rattle.rules.specs.Stamps.{Stamp};
-ghost use Rattle.rules.specs.Slots.{first};
 ghost use Rattle.times.specs.Of.{moment-of};
-ghost use Rattle.queues.specs.Meanings.{changed, answered, stored, asked-told, first-told, is-nothing};
-ghost use Rattle.queues.specs.Laws.{Firsts-right, Empty-right};
+ghost use Rattle.queues.specs.Meanings.{changed, answered, stored, asked-told, first-told, soonest, is-nothing};
+ghost use Rattle.queues.specs.Laws.{Soonest-first, Firsts-right, Empty-right};
 
 use times::Moment;
 use times::Refusal;
@@ -43,11 +42,11 @@ pub trait EventQueue {
 
     /// The slot with the least moment, the lowest slot among equals, with that moment; or none.
     fn first(&self) -> Option<(u16, Moment)>
-        ensures { λ r. ⌜ first-told r ≡ first (holds (now (self .entry))) ⌝ };
+        ensures { λ r. ⌜ first-told r ≡ soonest (holds (now (self .entry))) ⌝ };
 
     /// Whether no slot holds a moment.
     fn is_empty(&self) -> bool
-        ensures { λ r. ⌜ r ≡ is-nothing (first (holds (now (self .entry)))) ⌝ };
+        ensures { λ r. ⌜ r ≡ is-nothing (soonest (holds (now (self .entry)))) ⌝ };
 }
 
 /// Sets a slot's moment, or empties the slot where there is none to set.
@@ -64,6 +63,7 @@ pub fn keep<Q: EventQueue>(queue: &mut Q, slot: u16, moment: Option<Moment>) -> 
 
 /// The first answer is the slot with the least moment, the lowest slot among equals, and nothing else is; it is none just where the queue holds nothing.
 pub fn firsts_stand() -> u8
+    ensures scan { λ _. ⌜ Soonest-first ⌝ }
     ensures firsts { λ _. ⌜ Firsts-right ⌝ }
     ensures empty { λ _. ⌜ Empty-right ⌝ }
 {
