@@ -1,0 +1,90 @@
+//! Small expressions that carry meaning.
+ghost use mathlib.Core.Path.{_≡_};
+ghost use Prim.Native.Nat.{_+_, _*_, _<_, _≤_};
+ghost use Rattle.rules.specs.Slots.{slot, leg-slot};
+ghost use Rattle.geometry.specs.Of.{axis-of};
+ghost use Rattle.model.specs.Moves.{granted, lower-of, higher-of, axis-of as slot-axis};
+ghost use Rattle.floor.specs.Lines.{line-of};
+
+use geometry::Axis;
+
+/// How a certificate is taken away.
+#[derive(Clone, Copy)]
+pub enum Taken {
+    Fired,
+    Withdrawn,
+}
+
+impl Taken {
+    /// The line of a number that is taken away so: number × 4 + 2 fired, + 3 withdrawn.
+    pub fn line(self, number: u32) -> u32
+        requires { ⌜ number ≤ 20000000 ⌝ }
+        ensures { λ r. ⌜ r ≡ line-of self number ⌝ }
+    {
+        match self {
+            Taken::Fired => number * 4 + 2,
+            Taken::Withdrawn => number * 4 + 3,
+        }
+    }
+}
+
+/// The line of a number that is granted.
+pub fn granted_line(number: u32) -> u32
+    requires { ⌜ number ≤ 20000000 ⌝ }
+    ensures { λ r. ⌜ r ≡ granted number ⌝ }
+{
+    number * 4 + 1
+}
+
+/// The slot of two craft's bit on an axis.
+pub fn slot_of(axis: Axis, c: u8, d: u8) -> u16
+    requires c { ⌜ c < 64 ⌝ }
+    requires d { ⌜ d < 64 ⌝ }
+    ensures value { λ r. ⌜ r ≡ slot (axis-of axis) c d ⌝ }
+    ensures below { λ r. ⌜ r < 12288 ⌝ }
+{
+    let base = match axis {
+        Axis::X => 0,
+        Axis::Y => 4096,
+        Axis::Z => 8192,
+    };
+    base + 64 * u16::from(c.min(d)) + u16::from(c.max(d))
+}
+
+/// The slot of a craft's leg certificate.
+pub fn leg_slot_of(c: u8) -> u16
+    requires { ⌜ c < 64 ⌝ }
+    ensures value { λ r. ⌜ r ≡ leg-slot c ⌝ }
+    ensures below { λ r. ⌜ r < 12352 ⌝ }
+{
+    12288 + u16::from(c)
+}
+
+/// The axis of a bit's slot.
+pub fn axis_at(slot: u16) -> Axis
+    ensures { λ r. ⌜ axis-of r ≡ slot-axis slot ⌝ }
+{
+    if slot < 4096 {
+        Axis::X
+    } else if slot < 8192 {
+        Axis::Y
+    } else {
+        Axis::Z
+    }
+}
+
+/// The lower craft of a bit's slot.
+pub fn lower_at(slot: u16) -> u8
+    ensures value { λ r. ⌜ r ≡ lower-of slot ⌝ }
+    ensures below { λ r. ⌜ r < 64 ⌝ }
+{
+    (slot % 4096 / 64) as u8
+}
+
+/// The higher craft of a bit's slot.
+pub fn higher_at(slot: u16) -> u8
+    ensures value { λ r. ⌜ r ≡ higher-of slot ⌝ }
+    ensures below { λ r. ⌜ r < 64 ⌝ }
+{
+    (slot % 64) as u8
+}
