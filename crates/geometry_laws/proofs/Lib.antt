@@ -3,7 +3,14 @@ pub mod Behind
 pub mod Lists
 pub mod Settled
 pub mod Certificates
+pub mod Quick
 pub mod Moments
 pub mod Soon
 pub mod Lately
 pub mod Flips
+pub mod Paths
+pub mod Near
+pub mod Points
+pub mod Turns
+pub mod Track
+pub mod Pair

@@ -3,6 +3,8 @@ use mathlib.Core.Path.{_≡_, refl, ap, sym, _∙_, subst}
 use mathlib.Core.Logic.{_⊎_, inl, inr, ⊎-elim}
 use mathlib.Core.Bool.{Bool, true, false, cond}
 use mathlib.Core.List.{List, [], _∷_, _++_, List·Memᴰ·head, List·Memᴰ·tail, List·Memᴰ·not-nil, List·Memᴰ·cases-cons}
+use Prim.Native.Nat.{ℕ}
+use native.Mathlib.Omega.{arith}
 use Rattle.std.specs.declared.option.Option.{Option}
 use Rattle.std.specs.declared.option.Option.the-variants.{Some, None}
 use Rattle.rules.specs.Basics.{_∈_, those}
@@ -85,3 +87,23 @@ earliest-best (m ∷ ms) pr = go (earliest ms) (earliest-best ms (λ x h. pr x (
             at-m : (x : Stamp) → x ∈ (m ∷ ms) → (x ≡ m) ⊎ (x ∈ ms) → NotEarlier x m
             at-m x i (inl f) g = not-earlier-self m (subst (λ (y : Stamp). Earlier y m) f g)
             at-m x i (inr h) g = not-earlier-trans m k x pm (pr k (List·Memᴰ·tail (b .0))) (pr x i) (not-is-earlier k m e) (b .1 x h) g
+
+-- the earliest is one of them
+pub earliest-in : (xs : List Stamp) (P : Stamp → Type 0) → ((x : Stamp) → x ∈ xs → P x) → (k : Stamp) → earliest xs ≡ Some k → P k
+earliest-in [] P f k e = absurd (let z : _≡_ {A = ℕ} 0 1 = cc in omega arith)
+earliest-in (m ∷ ms) P f k e = go (λ j h. earliest-in ms P (λ x i. f x (List·Memᴰ·tail i)) j h) (earliest ms) refl e
+  where
+    pick : (j : Stamp) (b : Bool) → P j → Some (cond b j m) ≡ Some k → P k
+    pick j true x h = let g : j ≡ k = cc in subst P g x
+    pick j false x h = let g : m ≡ k = cc in subst P g (f m (List·Memᴰ·head refl))
+    go : ((j : Stamp) → earliest ms ≡ Some j → P j) → (o : Option Stamp) → earliest ms ≡ o → Some (earlier-of m o) ≡ Some k → P k
+    go r None g h = let e : m ≡ k = cc in subst P e (f m (List·Memᴰ·head refl))
+    go r (Some j) g h = pick j (is-earlier j m) (r j g) h
+
+-- where none of the others is earlier, the first is the earliest
+pub earliest-first : (m : Stamp) (ms : List Stamp) → ((x : Stamp) → x ∈ ms → is-earlier x m ≡ false) → earliest (m ∷ ms) ≡ Some m
+earliest-first m ms f = go (earliest ms) refl
+  where
+    go : (o : Option Stamp) → earliest ms ≡ o → Some (earlier-of m o) ≡ Some m
+    go None e = refl
+    go (Some k) e = ap (λ (b : Bool). Some (cond b k m)) (earliest-in ms (λ x. is-earlier x m ≡ false) f k e)

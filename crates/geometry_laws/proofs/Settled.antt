@@ -48,6 +48,7 @@ pub record Root (n s : ℤ) (t : Fraction) : Type 0 where
   pub is : t ≡ least (natAbs n) (natAbs s)
   pub slope : 0 < natAbs s
   pub small : natAbs s ≤ 16000
+  pub sign : pos 0 ≤ℤ (n *ℤ s)
   pub inside : natAbs n ≤ 50000 * natAbs s
 
 pub quotient-out : (n s : ℤ) (t : Fraction) → quotient n s ≡ Some t → Root n s t
@@ -58,10 +59,10 @@ quotient-out n s t e = go (test n s) refl e
     go true f g =
         let p = and-parts (leZ (pos 0) (n *ℤ s)) (not (no-time (natAbs n) (natAbs s))) f in
         let q = time-is (natAbs n) (natAbs s) (p .1) in
-        record { is = cc; slope = q .0; small = q .1; inside = q .2 }
+        record { is = cc; slope = q .0; small = q .1; sign = omega (arith, ints, p .0); inside = q .2 }
 
 -- over signs: n and s have one sign, and z is their quotient
-root-zero : (n s : ℤ) (x d : ℕ) → x * natAbs s ≡ natAbs n * d → pos 0 ≤ℤ (n *ℤ s) → 0 < natAbs s → n *ℤ pos d ≡ s *ℤ pos x
+pub root-zero : (n s : ℤ) (x d : ℕ) → x * natAbs s ≡ natAbs n * d → pos 0 ≤ℤ (n *ℤ s) → 0 < natAbs s → n *ℤ pos d ≡ s *ℤ pos x
 root-zero (pos n) (pos s) x d e h o = omega (arith, ints, e)
 root-zero (pos zero) (negsuc s) x d e h o =
     let z : x * suc s ≡ 0 = omega (arith, e) in
@@ -87,19 +88,19 @@ pub record Crosses (n s : ℤ) : Type 0 where
   pub sign : pos 0 ≤ℤ (n *ℤ s)
   pub inside : natAbs n ≤ 50000 * natAbs s
 
-crosses-up : (n s b : ℤ) → n ≡ negℤ b → up b ≤ down b → down s < up s → down b * 1 + down s * 50000 ≤ up b * 1 + up s * 50000 → Crosses n s
+pub crosses-up : (n s b : ℤ) → n ≡ negℤ b → up b ≤ down b → down s < up s → down b * 1 + down s * 50000 ≤ up b * 1 + up s * 50000 → Crosses n s
 crosses-up (pos n) (pos s) b e h k l = record { slope = omega arith; sign = omega (arith, ints); inside = omega (arith, ints, e) }
 crosses-up (negsuc n) (pos s) b e h k l = absurd (omega (arith, ints, e))
 crosses-up n (negsuc s) b e h k l = absurd (omega arith)
 
-crosses-down : (n s b : ℤ) → n ≡ negℤ b → down b ≤ up b → up s < down s → up b * 1 + up s * 50000 ≤ down b * 1 + down s * 50000 → Crosses n s
+pub crosses-down : (n s b : ℤ) → n ≡ negℤ b → down b ≤ up b → up s < down s → up b * 1 + up s * 50000 ≤ down b * 1 + down s * 50000 → Crosses n s
 crosses-down (negsuc n) (negsuc s) b e h k l = record { slope = omega arith; sign = omega (arith, ints); inside = omega (arith, ints, e) }
 crosses-down (pos zero) (negsuc s) b e h k l = record { slope = omega arith; sign = omega (arith, ints); inside = omega arith }
 crosses-down (pos (suc n)) (negsuc s) b e h k l = absurd (omega (arith, ints, e))
 crosses-down n (pos s) b e h k l = absurd (omega arith)
 
 -- a line that rises and is not above zero at m starts at most at zero; one that falls and is above zero at m starts above
-starts-low : (l : Line) (m : Stamp) → Proper (m .time) → down (l .slope) < up (l .slope) → ¬ (Pos l m) → up (l .base) ≤ down (l .base)
+pub starts-low : (l : Line) (m : Stamp) → Proper (m .time) → down (l .slope) < up (l .slope) → ¬ (Pos l m) → up (l .base) ≤ down (l .base)
 starts-low l m p r a = le-of-mul-le-mul-right {k = m .time .den} (fin (decLe (hi l (m .time)) (lo l (m .time)))) p
   where
     fin : Dec (hi l (m .time) ≤ lo l (m .time)) → up (l .base) * m .time .den ≤ down (l .base) * m .time .den
@@ -109,7 +110,7 @@ starts-low l m p r a = le-of-mul-le-mul-right {k = m .time .den} (fin (decLe (hi
         le x y h = omega arith
     fin (no x) = absurd (a (inl (omega arith)))
 
-starts-high : (l : Line) (m : Stamp) → Proper (m .time) → up (l .slope) < down (l .slope) → Pos l m → down (l .base) ≤ up (l .base)
+pub starts-high : (l : Line) (m : Stamp) → Proper (m .time) → up (l .slope) < down (l .slope) → Pos l m → down (l .base) ≤ up (l .base)
 starts-high l m p r (inr x) = absurd (omega (arith, x .2))
 starts-high l m p r (inl x) = le-of-mul-le-mul-right {k = m .time .den} (omega (arith, x, mul-le-mul-right (m .time .num) (le (up (l .slope)) (down (l .slope)) r))) p
   where
@@ -117,21 +118,21 @@ starts-high l m p r (inl x) = le-of-mul-le-mul-right {k = m .time .den} (omega (
     le x y h = omega arith
 
 -- and at 50,000
-ends-high : (l : Line) (j : Stamp) → Proper (j .time) → NotAfter (j .time) (tick 50000) → down (l .slope) < up (l .slope) → Pos l j → down (l .base) * 1 + down (l .slope) * 50000 ≤ up (l .base) * 1 + up (l .slope) * 50000
+pub ends-high : (l : Line) (j : Stamp) → Proper (j .time) → NotAfter (j .time) (tick 50000) → down (l .slope) < up (l .slope) → Pos l j → down (l .base) * 1 + down (l .slope) * 50000 ≤ up (l .base) * 1 + up (l .slope) * 50000
 ends-high l j p i r x = rise-≤ (up (l .base)) (down (l .base)) (up (l .slope)) (down (l .slope)) (j .time .num) (j .time .den) 50000 1 p (omega arith) (omega arith) i (not-below x)
   where
     not-below : Pos l j → lo l (j .time) ≤ hi l (j .time)
     not-below (inl y) = omega arith
     not-below (inr y) = omega (arith, y .1)
 
-ends-low : (l : Line) (j : Stamp) → Proper (j .time) → NotAfter (j .time) (tick 50000) → up (l .slope) < down (l .slope) → ¬ (Pos l j) → up (l .base) * 1 + up (l .slope) * 50000 ≤ down (l .base) * 1 + down (l .slope) * 50000
+pub ends-low : (l : Line) (j : Stamp) → Proper (j .time) → NotAfter (j .time) (tick 50000) → up (l .slope) < down (l .slope) → ¬ (Pos l j) → up (l .base) * 1 + up (l .slope) * 50000 ≤ down (l .base) * 1 + down (l .slope) * 50000
 ends-low l j p i r x = rise-≤ (down (l .base)) (up (l .base)) (down (l .slope)) (up (l .slope)) (j .time .num) (j .time .den) 50000 1 p (omega arith) (omega arith) i (fin (decLe (hi l (j .time)) (lo l (j .time))))
   where
     fin : Dec (hi l (j .time) ≤ lo l (j .time)) → hi l (j .time) ≤ lo l (j .time)
     fin (yes y) = y
     fin (no y) = absurd (x (inl (omega arith)))
 
-other-way : (a b : ℤ) → b -ℤ a ≡ negℤ (a -ℤ b)
+pub other-way : (a b : ℤ) → b -ℤ a ≡ negℤ (a -ℤ b)
 other-way a b = omega (arith, ints)
 
 -- from k to j, both in the stretch from m on, the difference stays as it is at j

@@ -1,1 +1,4 @@
 pub mod Certificates
+pub mod Points
+pub mod Quick
+pub mod Turns
