@@ -1,4 +1,3 @@
 pub mod Sums
 pub mod Owns
 pub mod Followers
-pub mod Plains

@@ -1,5 +1,3 @@
 pub mod Told
 pub mod Right
 pub mod Laws
-pub mod Routes
-pub mod Plain

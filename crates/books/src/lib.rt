@@ -1,10 +1,5 @@
 //! Flight books: the trait with its meaning and laws, and the books of plans.
 pub mod book;
 pub mod laws;
-pub mod plain;
-mod routes;
 
 pub use book::FlightBook;
-pub use plain::ItineraryBook;
-pub use plain::PlanBook;
-pub use plain::SingleLegBook;

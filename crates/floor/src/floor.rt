@@ -3,9 +3,8 @@ use books::FlightBook;
 use queues::EventQueue;
 use tables::Tables;
 
-mod bits;
+// mod bits;
 mod grants;
-mod legs;
 
 /// What moves of certificates read and change: the flight book, the event queue and the tables.
 #[derive(Drop)]

@@ -1,0 +1,41 @@
+-- Granting and taking away, with what the code did on the way.
+use mathlib.Core.Path.{_≡_, refl, sym, ap, _∙_, subst}
+use mathlib.Core.Bool.{Bool, true, false, cond}
+use mathlib.Core.List.{List, [], _∷_}
+use Prim.Native.Nat.{ℕ, suc, _+_, _<_, _≤_}
+use native.Mathlib.Omega.{arith}
+use lib.Dec.{ltb}
+use lib.ListN.{length, set}
+use borrow.Author.Tests.{le-ltb}
+use Rattle.std.specs.declared.option.Option.{Option}
+use Rattle.std.specs.declared.option.Option.the-variants.{Some, None}
+use Rattle.rules.specs.Basics.{put}
+use Rattle.rules.specs.Stamps.{Stamp}
+use Rattle.rules.specs.Books.{Book}
+use Rattle.rules.specs.Slots.{Queue}
+use Rattle.queues.specs.Meanings.{changed}
+use Rattle.model.specs.Halls.{Hall}
+use Rattle.model.specs.Moves.{granted, grant, take-away}
+use Rattle.tables.specs.Tables.{Table, put-number}
+use Rattle.floor_laws.specs.Writing.{Wrote}
+use Rattle.floor_laws.proofs.Writes.{written-one}
+use Rattle.floor.specs.Of.{joined}
+
+-- a queue changed at a slot that there is
+pub changed-is : (q : Queue) (s : ℕ) (o : Option Stamp) → s < 12352 → changed q s o ≡ put q s o
+changed-is q s o h = ap (λ (b : Bool). cond b q (put q s o)) (le-ltb 12351 s (omega arith))
+
+module _ (b : Book) (q q′ : Queue) (t t′ : Table) (slot number line n : ℕ) (o : Option Stamp) (s : List ℕ) where
+  pub granting : slot < 12352 → q′ ≡ changed q slot o → t′ ≡ put-number slot (suc (t .last)) (suc (t .last)) t → number ≡ suc (t .last) → line ≡ granted number → n < length s →
+    Wrote (grant slot o) n (joined b q t) (joined b q′ t′) s (set s n line) (n + 1)
+  granting h e f g k l = record {
+    hall = ap (λ (x : Table). joined b q′ x) f ∙ ap (λ (x : Queue). joined b x (put-number slot (suc (t .last)) (suc (t .last)) t)) (e ∙ changed-is q slot o h);
+    slip = ap (set s n) (k ∙ ap granted g) ∙ written-one n (granted (suc (t .last))) s l;
+    count = refl }
+
+  pub taking : (name : ℕ → ℕ) → slot < 12352 → q′ ≡ changed q slot None → t′ ≡ put-number slot 0 (t .last) t → number ≡ t .number slot → line ≡ name number → n < length s →
+    Wrote (take-away name slot) n (joined b q t) (joined b q′ t′) s (set s n line) (n + 1)
+  taking name h e f g k l = record {
+    hall = ap (λ (x : Table). joined b q′ x) f ∙ ap (λ (x : Queue). joined b x (put-number slot 0 (t .last) t)) (e ∙ changed-is q slot None h);
+    slip = ap (set s n) (k ∙ ap name g) ∙ written-one n (name (t .number slot)) s l;
+    count = refl }

@@ -1,3 +1,0 @@
-pub mod sizes;
-pub use sizes::Axis;
-pub use sizes::HalfSizes;
