@@ -2,6 +2,7 @@
 ghost use mathlib.Core.Path.{_≡_};
 ghost use Prim.Native.Nat.{_≤_};
 ghost use lib.ListN.{length};
+ghost use Rattle.tables.specs.Crafts.{AllSized};
 ghost use Rattle.tables.specs.Tables.{Granted};
 
 use crate::craft::CraftRecord;
@@ -17,6 +18,7 @@ pub struct Tables {
     numbers: [u32; 12352],
     last: u32,
     ghost sizes: { (length craft ≡ 64) × (length bits ≡ 12288) × (length numbers ≡ 12352) },
+    ghost small: { AllSized craft },
     ghost few: { last ≤ 20000000 },
     ghost granted: { Granted numbers last },
 }

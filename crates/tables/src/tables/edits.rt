@@ -2,7 +2,7 @@
 ghost use mathlib.Core.Path.{_≡_};
 ghost use Prim.Native.Nat.{suc, _<_, _≤_};
 ghost use Rattle.plans.specs.Routes.{answer-of};
-ghost use Rattle.tables.specs.Crafts.{record-in, turned};
+ghost use Rattle.tables.specs.Crafts.{record-in, turned, Sized};
 ghost use Rattle.tables.specs.Tables.{empty, put-craft, put-bit, put-number};
 ghost use Rattle.tables.specs.Of.{table};
 
@@ -26,7 +26,8 @@ impl Tables {
 
     /// Sets or empties the record of a craft; every other stays.
     pub fn set_craft(&mut self, c: usize, craft: Option<CraftRecord>)
-        requires { ⌜ c < 64 ⌝ }
+        requires c { ⌜ c < 64 ⌝ }
+        requires sized { ⌜ Sized craft ⌝ }
         ensures { λ _. ⌜ table (now (self .exit)) ≡ put-craft c (record-in craft) (table (now (self .entry))) ⌝ }
     {
         self.craft[c] = craft;

@@ -1,10 +1,11 @@
 //! What the tables tell. These are public for the crate above, which keeps its indices in range.
 ghost use mathlib.Core.Path.{_≡_};
+ghost use mathlib.Core.Bool.{true};
 ghost use Prim.Native.Nat.{_<_, _≤_};
 ghost use Rattle.std.specs.Options.{isSome};
 ghost use Rattle.rules.specs.Basics.{the};
 ghost use Rattle.model.specs.Moves.{nobody};
-ghost use Rattle.tables.specs.Crafts.{record-of, record-in};
+ghost use Rattle.tables.specs.Crafts.{record-of, record-in, sized, Sized};
 ghost use Rattle.tables.specs.Of.{table};
 
 use crate::craft::CraftRecord;
@@ -14,7 +15,8 @@ impl Tables {
     /// The record of a craft, where it is entered.
     pub fn craft_at(&self, c: usize) -> Option<CraftRecord>
         requires { ⌜ c < 64 ⌝ }
-        ensures { λ r. ⌜ record-in r ≡ table (now (self .entry)) .craft c ⌝ }
+        ensures value { λ r. ⌜ record-in r ≡ table (now (self .entry)) .craft c ⌝ }
+        ensures sized { λ r. ⌜ Sized r ⌝ }
     {
         self.craft[c]
     }
@@ -33,7 +35,8 @@ impl Tables {
     /// The record of a craft; of one that is not entered it does not matter.
     pub fn record(&self, c: usize) -> CraftRecord
         requires { ⌜ c < 64 ⌝ }
-        ensures { λ r. ⌜ record-of r ≡ the nobody (table (now (self .entry)) .craft c) ⌝ }
+        ensures value { λ r. ⌜ record-of r ≡ the nobody (table (now (self .entry)) .craft c) ⌝ }
+        ensures sized { λ r. ⌜ sized r ≡ true ⌝ }
     {
         match self.craft_at(c) {
             Some(craft) => craft,
