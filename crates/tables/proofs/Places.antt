@@ -15,6 +15,8 @@ use Rattle.std.specs.declared.option.Option.the-variants.{Some, None}
 use Rattle.rules.specs.Basics.{put}
 use Rattle.rules.specs.Paths.{Axis, X, Y, Z, xyz}
 use Rattle.model.specs.Halls.{Craft}
+use Rattle.tables.specs.declared.craft.CraftRecord.{CraftRecord}
+use Rattle.tables.specs.Crafts.{sized, Sized, AllSized}
 use Rattle.tables.specs.Tables.{Granted, Table, empty}
 
 pub xyz-same : {A : Type 0} (v : A) → xyz v v v ≡ (λ (_ : Axis). v)
@@ -70,3 +72,13 @@ empty-is craft bits numbers e f g = rw (e, f, g) refl
 -- craft changed at c
 pub craft-is : (f g : ℕ → Option Craft) (t : Table) → f ≡ g → _≡_ {A = Table} (record { craft = f; bit = t .bit; number = t .number; last = t .last }) (record { craft = g; bit = t .bit; number = t .number; last = t .last })
 craft-is f g t e = ap (λ (h : ℕ → Option Craft). record { craft = h; bit = t .bit; number = t .number; last = t .last }) e
+
+pub sized-none : (n : ℕ) → AllSized (replicate n None)
+sized-none n k r e = let f = getD-same {A = Option CraftRecord} n None k in let z : _≡_ {A = ℕ} 0 1 = cc in absurd (omega arith)
+
+pub sized-set : (xs : List (Option CraftRecord)) (i : ℕ) (o : Option CraftRecord) → i < length xs → Sized o → AllSized xs → AllSized (set xs i o)
+sized-set xs i o h s a k r e = go (eqb k i) (sym (ap (λ (f : ℕ → Option CraftRecord). f k) (placed (λ (x : Option CraftRecord). x) xs i o None h)) ∙ e)
+  where
+    go : (b : Bool) → cond b o (getD xs k None) ≡ Some r → sized r ≡ true
+    go true q = s r q
+    go false q = a k r q

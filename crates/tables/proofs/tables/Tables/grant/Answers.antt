@@ -9,4 +9,4 @@ pub ghost-self : need.ghost-self
 ghost-self c =
     let t = c .args .self .now in
     let w : c .args .slot < length (t .numbers) = omega arith in
-    (search needs, (omega arith, (granted-set (t .numbers) (c .args .slot) (t .last + 1) (t .last + 1) w (omega arith) (granted-up (t .numbers) (t .last) (t .last + 1) (omega arith) (t .granted)), tt)))
+    (search needs, (t .small, (omega arith, (granted-set (t .numbers) (c .args .slot) (t .last + 1) (t .last + 1) w (omega arith) (granted-up (t .numbers) (t .last) (t .last + 1) (omega arith) (t .granted)), tt))))

@@ -6,7 +6,7 @@ use Rattle.model.specs.Moves.{nobody}
 use Rattle.tables.proofs.tables.Tables.record.Needs as need
 
 pub returns-in-Some : need.returns-in-Some
-returns-in-Some c = ap (the nobody) (c .in-Some .ensures tt)
+returns-in-Some c = record { value = ap (the nobody) (c .in-Some .ensures tt .value); sized = c .in-Some .ensures tt .sized _ refl }
 
 pub returns-in-None : need.returns-in-None
-returns-in-None c = c .nobody .ensures ∙ ap (the nobody) (c .in-None .ensures tt)
+returns-in-None c = record { value = c .nobody .ensures .value ∙ ap (the nobody) (c .in-None .ensures tt .value); sized = c .nobody .ensures .sized }
