@@ -2,7 +2,7 @@
 use mathlib.Core.Path.{_≡_, refl, sym, ap, _∙_, subst}
 use mathlib.Core.Bool.{Bool, true, false, cond}
 use mathlib.Core.List.{List, [], _∷_}
-use Prim.Native.Nat.{ℕ, suc, _+_, _<_, _≤_}
+use Prim.Native.Nat.{ℕ, suc, _+_, _<_, _≤_, min, max}
 use native.Mathlib.Omega.{arith}
 use lib.Dec.{ltb}
 use lib.ListN.{length, set}
@@ -11,14 +11,16 @@ use Rattle.std.specs.declared.option.Option.{Option}
 use Rattle.std.specs.declared.option.Option.the-variants.{Some, None}
 use Rattle.rules.specs.Basics.{put}
 use Rattle.rules.specs.Stamps.{Stamp}
+use Rattle.rules.specs.Paths.{Axis}
+use Rattle.rules.specs.Boxes.{Ends, overlap}
 use Rattle.rules.specs.Books.{Book}
-use Rattle.rules.specs.Slots.{Queue}
+use Rattle.rules.specs.Slots.{Queue, slot}
 use Rattle.queues.specs.Meanings.{changed}
 use Rattle.model.specs.Halls.{Hall}
-use Rattle.model.specs.Moves.{granted, grant, take-away}
-use Rattle.tables.specs.Tables.{Table, put-number}
+use Rattle.model.specs.Moves.{granted, grant, take-away, ends-of, grant-bit, enter-bit}
+use Rattle.tables.specs.Tables.{Table, put-number, put-bit}
 use Rattle.floor_laws.specs.Writing.{Wrote}
-use Rattle.floor_laws.proofs.Writes.{written-one}
+use Rattle.floor_laws.proofs.Writes.{written-one, wrote-as}
 use Rattle.floor.specs.Of.{joined}
 
 -- a queue changed at a slot that there is
@@ -39,3 +41,14 @@ module _ (b : Book) (q q′ : Queue) (t t′ : Table) (slot number line n : ℕ)
     hall = ap (λ (x : Table). joined b q′ x) f ∙ ap (λ (x : Queue). joined b x (put-number slot 0 (t .last) t)) (e ∙ changed-is q slot None h);
     slip = ap (set s n) (k ∙ ap name g) ∙ written-one n (name (t .number slot)) s l;
     count = refl }
+
+-- a bit set as it is, then granted
+pub bit-entered : (b : Book) (q : Queue) (t t′ : Table) (a : Axis) (c d : ℕ) (k : Stamp) (low high slot′ : ℕ) (x y : Ends) (bit : Bool) (n r : ℕ) (m′ : Hall) (s s′ : List ℕ) →
+  low ≡ min c d → high ≡ max c d → x ≡ ends-of a low (joined b q t) → y ≡ ends-of a high (joined b q t) → bit ≡ overlap x y k → slot′ ≡ slot a c d → t′ ≡ put-bit slot′ bit t →
+  Wrote (grant-bit a c d k) n (joined b q t′) m′ s s′ r → Wrote (enter-bit a c k d) n (joined b q t) m′ s s′ r
+bit-entered b q t t′ a c d k low high slot′ x y bit n r m′ s s′ e f g h i j l w =
+  wrote-as (enter-bit a c k d) (grant-bit a c d k) n (joined b q t) (joined b q t′) m′ s s′ r
+    (ap (grant-bit a c d k) (sym (ap (joined b q) (l ∙ ap (λ (z : ℕ). put-bit z bit t) j ∙ ap (λ (v : Bool). put-bit (slot a c d) v t) same)))) w
+  where
+    same : bit ≡ overlap (ends-of a (min c d) (joined b q t)) (ends-of a (max c d) (joined b q t)) k
+    same = i ∙ ap (λ (z : Ends). overlap z y k) (g ∙ ap (λ (v : ℕ). ends-of a v (joined b q t)) e) ∙ ap (λ (z : Ends). overlap (ends-of a (min c d) (joined b q t)) z k) (h ∙ ap (λ (v : ℕ). ends-of a v (joined b q t)) f)

@@ -3,7 +3,7 @@ use books::FlightBook;
 use queues::EventQueue;
 use tables::Tables;
 
-// mod bits;
+mod bits;
 mod grants;
 
 /// What moves of certificates read and change: the flight book, the event queue and the tables.

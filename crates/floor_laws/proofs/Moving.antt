@@ -13,19 +13,9 @@ use Rattle.rules.specs.Boxes.{Box}
 use Rattle.rules.specs.Slots.{slot, leg-slot}
 use Rattle.model.specs.Halls.{Craft, Hall, with-book, others}
 use Rattle.model.specs.Moves.{Out, silent, then, each, on-axes, withdrawn, grant, take-away, grant-bit, enter-bit, drop-bit, grant-leg, enter, leave, renew, fire-bit, fire-leg, fire-kind, fire, come-back, change, followers, craft-set, craft-of, read-leg}
-use Rattle.floor_laws.specs.Writing.{Move, Grows}
+use Rattle.floor_laws.specs.Writing.{Move, Grows, Leaves, withdraw, regrant}
 use Rattle.floor_laws.proofs.Writes.{grows-then}
-use Rattle.floor_laws.proofs.Loops.{grows-each}
-
--- craft and book stay
-abbrev pub Leaves : Move → Type 0
-Leaves f = (m : Hall) → (f m .hall .craft ≡ m .craft) × (f m .hall .book ≡ m .book)
-
-pub leaves-each : (f : ℕ → Move) → ((d : ℕ) → Leaves (f d)) → (ds : List ℕ) → Leaves (each f ds)
-leaves-each f l [] m = (refl, refl)
-leaves-each f l (d ∷ ds) m =
-    let a = l d m in let b = leaves-each f l ds (f d m .hall) in
-    (b .0 ∙ a .0, b .1 ∙ a .1)
+use Rattle.floor_laws.proofs.Loops.{grows-each, leaves-each}
 
 pub leaves-then : (f g : Move) → Leaves f → Leaves g → Leaves (then f g)
 leaves-then f g a b m = (b (f m .hall) .0 ∙ a m .0, b (f m .hall) .1 ∙ a m .1)
@@ -88,3 +78,9 @@ pub leave-grows : (c : ℕ) → Grows (leave c)
 leave-grows c m =
     let u = grows-axes (λ a. each (drop-bit a c) (others c m)) (λ a. drop-bits-grows a c (others c m)) m in
     omega arith
+
+pub withdraw-leaves : (a : Axis) (c d : ℕ) → Leaves (withdraw a c d)
+withdraw-leaves a c d = take-leaves withdrawn (slot a c d)
+
+pub withdraw-one-grows : (a : Axis) (c d : ℕ) → Grows (withdraw a c d)
+withdraw-one-grows a c d = take-grows withdrawn (slot a c d)
