@@ -1,6 +1,6 @@
 -- Granting and taking away, with what the code did on the way.
 use mathlib.Core.Path.{_≡_, refl, sym, ap, _∙_, subst}
-use mathlib.Core.Bool.{Bool, true, false, cond}
+use mathlib.Core.Bool.{Bool, true, false, cond, not}
 use mathlib.Core.List.{List, [], _∷_}
 use Prim.Native.Nat.{ℕ, suc, _+_, _<_, _≤_, min, max}
 use native.Mathlib.Omega.{arith}
@@ -17,7 +17,7 @@ use Rattle.rules.specs.Books.{Book}
 use Rattle.rules.specs.Slots.{Queue, slot}
 use Rattle.queues.specs.Meanings.{changed}
 use Rattle.model.specs.Halls.{Hall}
-use Rattle.model.specs.Moves.{granted, grant, take-away, ends-of, grant-bit, enter-bit}
+use Rattle.model.specs.Moves.{granted, grant, take-away, ends-of, grant-bit, enter-bit, fire-bit, axis-of, lower-of, higher-of}
 use Rattle.tables.specs.Tables.{Table, put-number, put-bit}
 use Rattle.floor_laws.specs.Writing.{Wrote}
 use Rattle.floor_laws.proofs.Writes.{written-one, wrote-as}
@@ -52,3 +52,14 @@ bit-entered b q t t′ a c d k low high slot′ x y bit n r m′ s s′ e f g h 
   where
     same : bit ≡ overlap (ends-of a (min c d) (joined b q t)) (ends-of a (max c d) (joined b q t)) k
     same = i ∙ ap (λ (z : Ends). overlap z y k) (g ∙ ap (λ (v : ℕ). ends-of a v (joined b q t)) e) ∙ ap (λ (z : Ends). overlap (ends-of a (min c d) (joined b q t)) z k) (h ∙ ap (λ (v : ℕ). ends-of a v (joined b q t)) f)
+
+-- a bit changed, then granted
+pub bit-fired : (b : Book) (q : Queue) (t t′ : Table) (slot′ : ℕ) (k : Stamp) (a : Axis) (low high : ℕ) (bit : Bool) (n r : ℕ) (m′ : Hall) (s s′ : List ℕ) →
+  bit ≡ t .bit slot′ → t′ ≡ put-bit slot′ (not bit) t → a ≡ axis-of slot′ → low ≡ lower-of slot′ → high ≡ higher-of slot′ →
+  Wrote (grant-bit a low high k) n (joined b q t′) m′ s s′ r → Wrote (fire-bit slot′ k) n (joined b q t) m′ s s′ r
+bit-fired b q t t′ slot′ k a low high bit n r m′ s s′ e f g h i w =
+  wrote-as (fire-bit slot′ k) (grant-bit a low high k) n (joined b q t) (joined b q t′) m′ s s′ r
+    (sym (ap (λ (z : Table). grant-bit a low high k (joined b q z)) (f ∙ ap (λ (v : Bool). put-bit slot′ (not v) t) e)
+      ∙ ap (λ (z : Axis). grant-bit z low high k (joined b q (put-bit slot′ (not (t .bit slot′)) t))) g
+      ∙ ap (λ (z : ℕ). grant-bit (axis-of slot′) z high k (joined b q (put-bit slot′ (not (t .bit slot′)) t))) h
+      ∙ ap (λ (z : ℕ). grant-bit (axis-of slot′) (lower-of slot′) z k (joined b q (put-bit slot′ (not (t .bit slot′)) t))) i)) w

@@ -3,10 +3,14 @@ ghost use mathlib.Core.Path.{_≡_};
 ghost use Prim.Native.Nat.{_+_, _*_, _<_, _≤_};
 ghost use Rattle.rules.specs.Slots.{slot, leg-slot};
 ghost use Rattle.geometry.specs.Of.{axis-of};
-ghost use Rattle.model.specs.Moves.{granted, lower-of, higher-of, axis-of as slot-axis};
+ghost use Rattle.std.specs.Options.{Cases as BySome};
+ghost use Rattle.queues.specs.Meanings.{stored};
+ghost use Rattle.model.specs.Moves.{granted, at-break, lower-of, higher-of, axis-of as slot-axis};
 ghost use Rattle.floor.specs.Lines.{line-of};
 
 use geometry::Axis;
+use times::Moment;
+use times::Time;
 
 /// How a certificate is taken away.
 #[derive(Clone, Copy)]
@@ -87,4 +91,16 @@ pub fn higher_at(slot: u16) -> u8
     ensures below { λ r. ⌜ r < 64 ⌝ }
 {
     (slot % 64) as u8
+}
+
+/// The moment of a break, if there is one: side 0 of its tick.
+pub fn break_moment(next: Option<u16>) -> Option<Moment>
+    requires { ⌜ BySome next (0 ≤ 0) (λ i. i ≤ 50000) ⌝ }
+    ensures { λ r. ⌜ stored r ≡ at-break next ⌝ }
+{
+    let tick = next?;
+    match Time::at_tick(tick) {
+        Ok(time) => Some(Moment::at(time)),
+        Err(_) => None,
+    }
 }

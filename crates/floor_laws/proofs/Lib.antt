@@ -1,3 +1,4 @@
 pub mod Writes
 pub mod Loops
 pub mod Moving
+pub mod Legs

@@ -13,9 +13,10 @@ use lib.Dec.{eqb}
 use Rattle.std.specs.declared.option.Option.{Option}
 use Rattle.std.specs.Options.{isSome}
 use Rattle.model.specs.Halls.{Craft, Hall, in-hall, others, with-craft, all-craft}
-use Rattle.model.specs.Moves.{Out, then, silent, each}
+use Rattle.rules.specs.Paths.{Axis, X, Y, Z}
+use Rattle.model.specs.Moves.{Out, then, silent, each, on-axes}
 use Rattle.floor_laws.specs.Writing.{Move, written, Wrote, Fits, Grows, Leaves, other, where-so, if-other}
-use Rattle.floor_laws.proofs.Writes.{written-none, written-length, out-≡, wrote-silent, wrote-as, fits-as, wrote-then, fits-first, fits-second, first-room}
+use Rattle.floor_laws.proofs.Writes.{written-none, written-length, out-≡, wrote-silent, wrote-as, fits-as, wrote-then, fits-first, fits-second, first-room, grows-then}
 
 pub those-append : {A : Type 0} (p : A → Bool) (xs ys : List A) → those p (xs ++ ys) ≡ those p xs ++ those p ys
 those-append p [] ys = refl
@@ -201,3 +202,57 @@ module _ (f g : ℕ → Move) (lv : (d : ℕ) → Leaves (f d)) (up : (d : ℕ) 
     both-wrote m₂ s₂ r₂ v =
       wrote-then (each f (others c m)) (each g (others c m)) n m m₁ m₂ s s₁ s₂ r r₂ (first-room (each f (others c m)) (each g (others c m)) n m s x) w
         (wrote-as (each g (others c m)) (each g (others c m₁)) r m₁ m₁ m₂ s₁ s₂ r₂ (ap (λ (ds : List ℕ). each g ds m₁) (sym same)) v)
+
+-- A LOOP WITH A TEST THAT STAYS
+
+module _ (f : ℕ → Move) (up : (d : ℕ) → Grows (f d)) (p : ℕ → Bool) (n : ℕ) (m₀ : Hall) (s₀ : List ℕ) (x : Fits (prefix f p 64) n m₀ s₀) (d : ℕ) (h : d < 64) (m : Hall) (s : List ℕ) (r : ℕ) (w : Wrote (prefix f p d) n m₀ m s₀ s r) where
+  pub so-room : (b : Bool) → p d ≡ b → Fits (where-so b (f d)) r m s
+  so-room true t = loop-fits f p up d 64 n m₀ m s₀ s r t h x w
+  so-room false t = record { room = omega (arith, now .room, w .count, long); numbers = subst (λ (z : Hall). z .last ≤ 20000000) (sym (w .hall)) (now .numbers) }
+    where
+      now : Fits (prefix f p d) n m₀ s₀
+      now = fits-prefix f p up d 64 n m₀ s₀ (omega arith) x
+      long : length s ≡ length s₀
+      long = ap length (w .slip) ∙ written-length n _ s₀ (now .room)
+
+  pub so-step : (b : Bool) → p d ≡ b → (m′ : Hall) (s′ : List ℕ) (r′ : ℕ) → Wrote (where-so b (f d)) r m m′ s s′ r′ → Wrote (prefix f p (d + 1)) n m₀ m′ s₀ s′ r′
+  so-step true t m′ s′ r′ v = loop-more f p up d 64 n m₀ m m′ s₀ s s′ r r′ t h x w v
+  so-step false t m′ s′ r′ v =
+    let q = loop-skip f p d n m₀ m s₀ s r t w in
+    record { hall = v .hall ∙ q .hall; slip = v .slip ∙ written-none r s ∙ q .slip; count = v .count ∙ add-zero r ∙ q .count }
+
+-- THREE AXES: a move over the others on each, all of which leave the craft
+
+module _ (F : Axis → List ℕ → Move) (lv : (a : Axis) (ds : List ℕ) → Leaves (F a ds)) (up : (a : Axis) (ds : List ℕ) → Grows (F a ds)) (c n : ℕ) (m : Hall) (s : List ℕ)
+    (x : Fits (on-axes (λ a. F a (others c m))) n m s) where
+  abbrev rest : Move
+  rest = then (F Y (others c m)) (F Z (others c m))
+
+  pub axes-x : Fits (F X (others c m)) n m s
+  axes-x = fits-first (F X (others c m)) rest n m s (grows-then (F Y (others c m)) (F Z (others c m)) (up Y (others c m)) (up Z (others c m))) x
+
+  module _ (m₁ : Hall) (s₁ : List ℕ) (r₁ : ℕ) (w₁ : Wrote (F X (others c m)) n m m₁ s s₁ r₁) where
+    still₁ : others c m₁ ≡ others c m
+    still₁ = others-craft c m m₁ (ap (λ (h : Hall). h .craft) (w₁ .hall) ∙ lv X (others c m) m .0)
+
+    x₁ : Fits rest r₁ m₁ s₁
+    x₁ = fits-second (F X (others c m)) rest n m m₁ s s₁ r₁ x w₁
+
+    pub axes-y : Fits (F Y (others c m₁)) r₁ m₁ s₁
+    axes-y = fits-as (F Y (others c m)) (F Y (others c m₁)) r₁ m₁ m₁ s₁ (ap (λ (ds : List ℕ). F Y ds m₁) (sym still₁)) (fits-first (F Y (others c m)) (F Z (others c m)) r₁ m₁ s₁ (up Z (others c m)) x₁)
+
+    module _ (m₂ : Hall) (s₂ : List ℕ) (r₂ : ℕ) (w₂ : Wrote (F Y (others c m₁)) r₁ m₁ m₂ s₁ s₂ r₂) where
+      v₂ : Wrote (F Y (others c m)) r₁ m₁ m₂ s₁ s₂ r₂
+      v₂ = wrote-as (F Y (others c m)) (F Y (others c m₁)) r₁ m₁ m₁ m₂ s₁ s₂ r₂ (ap (λ (ds : List ℕ). F Y ds m₁) (sym still₁)) w₂
+
+      still₂ : others c m₂ ≡ others c m
+      still₂ = others-craft c m₁ m₂ (ap (λ (h : Hall). h .craft) (v₂ .hall) ∙ lv Y (others c m) m₁ .0) ∙ still₁
+
+      pub axes-z : Fits (F Z (others c m₂)) r₂ m₂ s₂
+      axes-z = fits-as (F Z (others c m)) (F Z (others c m₂)) r₂ m₂ m₂ s₂ (ap (λ (ds : List ℕ). F Z ds m₂) (sym still₂)) (fits-second (F Y (others c m)) (F Z (others c m)) r₁ m₁ m₂ s₁ s₂ r₂ x₁ v₂)
+
+      pub axes-all : (m₃ : Hall) (s₃ : List ℕ) (r₃ : ℕ) → Wrote (F Z (others c m₂)) r₂ m₂ m₃ s₂ s₃ r₃ → Wrote (on-axes (λ a. F a (others c m))) n m m₃ s s₃ r₃
+      axes-all m₃ s₃ r₃ w₃ =
+        wrote-then (F X (others c m)) rest n m m₁ m₃ s s₁ s₃ r₁ r₃ (first-room (F X (others c m)) rest n m s x) w₁
+          (wrote-then (F Y (others c m)) (F Z (others c m)) r₁ m₁ m₂ m₃ s₁ s₂ s₃ r₂ r₃ (first-room (F Y (others c m)) (F Z (others c m)) r₁ m₁ s₁ x₁) v₂
+            (wrote-as (F Z (others c m)) (F Z (others c m₂)) r₂ m₂ m₂ m₃ s₂ s₃ r₃ (ap (λ (ds : List ℕ). F Z ds m₂) (sym still₂)) w₃))
