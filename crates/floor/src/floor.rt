@@ -6,6 +6,7 @@ use tables::Tables;
 mod bits;
 mod grants;
 mod legs;
+mod questions;
 
 /// What moves of certificates read and change: the flight book, the event queue and the tables.
 #[derive(Drop)]

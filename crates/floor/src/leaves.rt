@@ -4,7 +4,9 @@ ghost use Prim.Native.Nat.{_+_, _*_, _<_, _≤_};
 ghost use Rattle.rules.specs.Slots.{slot, leg-slot};
 ghost use Rattle.geometry.specs.Of.{axis-of};
 ghost use Rattle.std.specs.Options.{Cases as BySome};
-ghost use Rattle.queues.specs.Meanings.{stored};
+ghost use Rattle.queues.specs.Meanings.{stored, first-told};
+ghost use Rattle.times.specs.Of.{time-of};
+ghost use Rattle.model.specs.Halls.{due-by};
 ghost use Rattle.model.specs.Moves.{granted, at-break, lower-of, higher-of, axis-of as slot-axis};
 ghost use Rattle.floor.specs.Lines.{line-of};
 
@@ -103,4 +105,12 @@ pub fn break_moment(next: Option<u16>) -> Option<Moment>
         Ok(time) => Some(Moment::at(time)),
         Err(_) => None,
     }
+}
+
+/// What is due: the first of a queue, where its moment is not after the goal itself.
+pub fn not_after(goal: Time, first: Option<(u16, Moment)>) -> Option<(u16, Moment)>
+    ensures { λ r. ⌜ first-told r ≡ due-by (time-of goal) (first-told first) ⌝ }
+{
+    let (slot, moment) = first?;
+    if Moment::at(goal).before(moment) { None } else { Some((slot, moment)) }
 }
