@@ -12,8 +12,8 @@ ghost use Rattle.model.specs.Halls.{in-hall, together, left, certificate-in, ne
 ghost use Rattle.floor.specs.Of.{joined, hall-of, certificate-told};
 
 use crate::floor::Floor;
-use crate::leaves::not_after;
-use crate::leaves::slot_of;
+use slots::not_after;
+use slots::slot_of;
 use books::FlightBook;
 use geometry::Axis;
 use plans::LegAnswer;

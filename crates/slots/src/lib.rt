@@ -1,4 +1,4 @@
-//! Small expressions that carry meaning.
+//! Slots, lines and due moments: the small expressions of the hall that carry meaning. They are public for the floor above, which keeps their arguments in range.
 ghost use mathlib.Core.Path.{_≡_};
 ghost use Prim.Native.Nat.{_+_, _*_, _<_, _≤_};
 ghost use Rattle.rules.specs.Slots.{slot, leg-slot};
@@ -8,7 +8,7 @@ ghost use Rattle.queues.specs.Meanings.{stored, first-told};
 ghost use Rattle.times.specs.Of.{time-of};
 ghost use Rattle.model.specs.Halls.{due-by};
 ghost use Rattle.model.specs.Moves.{granted, at-break, lower-of, higher-of, axis-of as slot-axis};
-ghost use Rattle.floor.specs.Lines.{line-of};
+ghost use Rattle.slots.specs.Lines.{line-of};
 
 use geometry::Axis;
 use times::Moment;
