@@ -29,6 +29,10 @@ axis-of Z = path.Z
 abbrev pub box-of : HalfSizes → Box
 box-of s = record { half = xyz (s .x) (s .y) (s .z) }
 
+-- a box by its half sizes
+abbrev pub sizes : (x y z : ℕ) → Box
+sizes x y z = record { half = xyz x y z }
+
 -- what comes of making half sizes
 abbrev pub box-told : Result HalfSizes Refusal → Result Box ℕ
 box-told (Ok s) = Ok (box-of s)

@@ -1,6 +1,7 @@
 //! Half the sizes of a box.
 ghost use Prim.Native.Nat.{_≤_};
 
+mod known;
 mod make;
 
 /// How far a box reaches from its craft's position on each axis, down and up alike: from 1 to 1,000.

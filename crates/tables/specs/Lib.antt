@@ -1,0 +1,3 @@
+pub mod Crafts
+pub mod Tables
+pub mod Of
