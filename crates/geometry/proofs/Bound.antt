@@ -1,9 +1,9 @@
 -- Sums and products of the code, and that they fit.
 use mathlib.Core.Path.{_≡_, refl, ap, ap₂, sym, _∙_, subst}
-use Prim.Native.Nat.{ℕ, zero, suc, _+_, _-_, _*_, _^_, _≤_, _<_}
+use Prim.Native.Nat.{ℕ, _*_, _^_, _≤_, _<_}
 use native.Mathlib.Omega.{arith}
 use native.Mathlib.Nat.{mul-le-mul}
-use lib.IntN.{ℤ, pos, negsuc, natAbs, _+ℤ_, _-ℤ_, _*ℤ_, negℤ}
+use lib.IntN.{ℤ, pos, negsuc, natAbs, _+ℤ_, _-ℤ_, _*ℤ_}
 use mir.Syntax.{w32, w64}
 use mir.Val.{SFits, toZ, ofZ}
 use Rattle.std.proofs.shelf.Signed.{toZ-ofZ}
@@ -44,7 +44,7 @@ module _ (a x v y : ℤ) (d n m k m' k' : ℕ) (i : In m a) (e : x ≡ pos d) (l
   sum-is : back (back a *ℤ back x) +ℤ back (back v *ℤ back y) ≡ (a *ℤ pos d) +ℤ (v *ℤ pos n)
   sum-is =
       ap₂ _+ℤ_ (toZ-ofZ w64 (back a *ℤ back x) (prod-fits a x d m k i e l bm bk (omega arith)) ∙ prod-is a x d m k i e l bm bk (omega arith))
-          (toZ-ofZ w64 (back v *ℤ back y) (prod-fits v y n m' k' j f l' bm' bk' b') ∙ prod-is v y n m' k' j f l' bm' bk' b')
+      (toZ-ofZ w64 (back v *ℤ back y) (prod-fits v y n m' k' j f l' bm' bk' b') ∙ prod-is v y n m' k' j f l' bm' bk' b')
 
   pub line-fits : SFits w64 (back (back a *ℤ back x) +ℤ back (back v *ℤ back y))
   line-fits = subst (λ (z : ℤ). SFits w64 z) (sym sum-is) (omega (arith, ints, in-times a d m k i l, in-times v n m' k' j l'))
@@ -61,12 +61,12 @@ module _ (x y : ℤ) (d u : ℕ) (fx : SFits w32 x) (fy : SFits w32 y) (hd : d �
   apart-is : back (back a -ℤ back b) ≡ x -ℤ y
   apart-is =
       ap back (ap₂ _-ℤ_ (ap back ea ∙ back-is 2147483648 x (omega arith) (wide x fx)) (ap back eb ∙ back-is 2147483648 y (omega arith) (wide y fy)))
-        ∙ toZ-ofZ w64 (x -ℤ y) (omega (arith, ints, wide x fx, wide y fy))
+      ∙ toZ-ofZ w64 (x -ℤ y) (omega (arith, ints, wide x fx, wide y fy))
 
   reach-is : back (back r +ℤ back s) ≡ pos d +ℤ pos u
   reach-is =
       ap back (ap₂ _+ℤ_ (ap back er ∙ back-is 1000 (pos d) (omega arith) (hd, omega arith)) (ap back es ∙ back-is 1000 (pos u) (omega arith) (hu, omega arith)))
-        ∙ toZ-ofZ w64 (pos d +ℤ pos u) (omega (arith, ints))
+      ∙ toZ-ofZ w64 (pos d +ℤ pos u) (omega (arith, ints))
 
   gap-fits : SFits w64 ((x -ℤ y) -ℤ (pos d +ℤ pos u))
   gap-fits = omega (arith, ints, wide x fx, wide y fy)

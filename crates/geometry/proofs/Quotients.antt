@@ -1,14 +1,14 @@
 -- Gaps and quotients as the rules have them.
-use mathlib.Core.Path.{_≡_, refl, ap, ap₂, sym, _∙_, subst}
-use mathlib.Core.Bool.{Bool, true, false, cond, not, _&&_, _||_}
+use mathlib.Core.Path.{_≡_, refl, ap, ap₂, sym, _∙_}
+use mathlib.Core.Bool.{Bool, cond, not, _&&_, _||_}
 use Prim.Native.Nat.{ℕ}
 use native.Mathlib.Omega.{arith}
-use lib.IntN.{ℤ, pos, negsuc, natAbs, _+ℤ_, _-ℤ_, _*ℤ_, negℤ}
+use lib.IntN.{ℤ, pos, natAbs, _-ℤ_, _*ℤ_, negℤ}
 use lib.Signed.{ltZ, leZ}
 use borrow.Author.Differences.{ints}
 use Rattle.std.specs.declared.option.Option.{Option}
 use Rattle.std.specs.declared.option.Option.the-variants.{Some, None}
-use Rattle.rules.specs.Fractions.{Fraction, least, no-time}
+use Rattle.rules.specs.Fractions.{least, no-time}
 use Rattle.rules.specs.Stamps.{Stamp}
 use Rattle.rules.specs.Paths.{Line, value}
 use Rattle.rules.specs.Boxes.{behind, quotient}
@@ -24,8 +24,10 @@ turned n s = same (natAbs (negℤ n)) (natAbs n) (natAbs (negℤ s)) (natAbs s) 
   where
     abs : (z : ℤ) → natAbs (negℤ z) ≡ natAbs z
     abs z = omega (arith, ints)
+
     product : (n s : ℤ) → negℤ n *ℤ negℤ s ≡ n *ℤ s
     product n s = omega (arith, ints, neg-times n (negℤ s), neg-times s n)
+
     same : (a b c d : ℕ) → a ≡ b → c ≡ d → (x y : ℤ) → x ≡ y →
         cond (leZ (pos 0) x && not (no-time a c)) (Some (least a c)) None ≡ cond (leZ (pos 0) y && not (no-time b d)) (Some (least b d)) None
     same a b c d e f x y g = cc
@@ -38,8 +40,10 @@ above-behind u v m =
   where
     lt-diff : (x y z : ℤ) → z ≡ x -ℤ y → ltZ (pos 0) z ≡ ltZ y x
     lt-diff x y z e = grind (arith, ints)
+
     gt-diff : (x y z : ℤ) → z ≡ x -ℤ y → ltZ z (pos 0) ≡ ltZ x y
     gt-diff x y z e = grind (arith, ints)
+
     join : {a b c d e f : Bool} → a ≡ b → c ≡ d → e ≡ f → (a || (m .after && not c && e)) ≡ (b || (m .after && not d && f))
     join p q r = cc
 

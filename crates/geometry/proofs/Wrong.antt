@@ -1,15 +1,13 @@
 -- The first wrong moment as the code finds it.
-use mathlib.Core.Path.{_≡_, refl, ap, sym, _∙_, subst}
+use mathlib.Core.Path.{_≡_, refl, ap, sym, _∙_}
 use mathlib.Core.Bool.{Bool, true, false, cond, not, Bool·beq}
-use Prim.Native.Nat.{ℕ, _≤_, _<_}
+use Prim.Native.Nat.{ℕ, _≤_}
 use native.Mathlib.Omega.{arith}
 use lib.IntN.{ℤ, pos, _+ℤ_, _-ℤ_}
 use lib.Signed.{ltZ, _<ℤ_}
 use borrow.Author.Differences.{ints}
-use Rattle.std.specs.declared.option.Option.{Option}
 use Rattle.std.specs.declared.option.Option.the-variants.{Some, None}
-use Rattle.rules.specs.Stamps.{Stamp}
-use Rattle.rules.specs.Boxes.{Ends, overlap, wrong, fails}
+use Rattle.rules.specs.Boxes.{overlap, wrong, fails}
 use Rattle.rules.proofs.Stamped.{false-true}
 use Rattle.times.specs.declared.moment.Moment.{Moment}
 use Rattle.times.specs.Of.{moment-of}
@@ -17,7 +15,7 @@ use Rattle.times.proofs.Times.{times-usual}
 use Rattle.geometry_laws.specs.Quick.{gaining, moving, quick, Solid}
 use Rattle.geometry_laws.proofs.Quick.{quick-right}
 use Rattle.geometry.specs.declared.span.Span.{Span}
-use Rattle.geometry.specs.Of.{span-of, stamp-told}
+use Rattle.geometry.specs.Of.{span-of}
 
 -- the test of the code is that of the rules
 pub wrong-is : (r bit x : Bool) → r ≡ x → not (Bool·beq r bit) ≡ wrong bit x

@@ -32,7 +32,11 @@ fn gains(bit: bool, p: Span, q: Span, from: Moment) -> Option<Moment>
     if bit {
         return closing(gap(p, q), true);
     }
-    if clear(q, p, from) { closing(gap(q, p), false) } else { None }
+    if clear(q, p, from) {
+        closing(gap(q, p), false)
+    } else {
+        None
+    }
 }
 
 /// The first moment, from `from` on and up to time 50,000, at which the bit does not tell whether the two overlap.

@@ -45,7 +45,11 @@ fn axis(number: i64) -> Option<Axis> {
 }
 
 fn sizes(x: i64, y: i64, z: i64) -> Option<HalfSizes> {
-    HalfSizes::new(u16::try_from(x).ok()?, u16::try_from(y).ok()?, u16::try_from(z).ok()?).ok()
+    HalfSizes::new(
+        u16::try_from(x).ok()?,
+        u16::try_from(y).ok()?,
+        u16::try_from(z).ok()?,
+    ).ok()
 }
 
 fn line(a: i64, v: i64) -> Option<(i32, i32)> {
@@ -60,7 +64,10 @@ fn read_case(text: &str) -> Option<Case> {
         bit: c[0] == 1,
         p: Span::new(line(c[2], c[3])?, sizes(c[6], c[7], c[8])?, on),
         q: Span::new(line(c[4], c[5])?, sizes(c[9], c[10], c[11])?, on),
-        from: Moment { time, after: c[14] == 1 },
+        from: Moment {
+            time,
+            after: c[14] == 1,
+        },
     })
 }
 

@@ -1,22 +1,21 @@
 -- One end is behind another exactly if their difference is above zero; boxes overlap if neither difference is.
-use mathlib.Core.Path.{_≡_, refl, ap, sym, _∙_, subst}
-use mathlib.Core.Logic.{_⊎_, inl, inr, ⊎-elim}
-use mathlib.Core.Bool.{Bool, true, false, not, _&&_, _||_}
-use Prim.Native.Nat.{ℕ, zero, suc, _+_, _-_, _*_, _≤_, _<_}
+use mathlib.Core.Path.{_≡_, refl, sym}
+use mathlib.Core.Logic.{_⊎_, inl, inr}
+use mathlib.Core.Bool.{Bool, true, false, not, _&&_}
+use Prim.Native.Nat.{ℕ, _+_, _<_}
 use native.Mathlib.Omega.{arith}
-use lib.IntN.{ℤ, pos, negsuc, _+ℤ_, _-ℤ_, _*ℤ_, negℤ}
+use lib.IntN.{ℤ, pos, _+ℤ_, _-ℤ_, _*ℤ_}
 use native.Mathlib.Decide.{decLt}
-use lib.Signed.{ltZ, leZ, _<ℤ_, _≤ℤ_}
+use lib.Signed.{ltZ}
 use borrow.Author.Differences.{ints, up, down, lt-true, true-is-lt}
 use Rattle.std.specs.Orderings.{Decides}
-use Rattle.std.proofs.shelf.Ways.{decides-not, decides-and, decides-or, decides-like, same-from-decides, not-from-decides}
-use Rattle.rules.specs.Fractions.{Fraction, Proper}
+use Rattle.std.proofs.shelf.Ways.{decides-not, decides-and, decides-or, decides-like, same-from-decides}
+use Rattle.rules.specs.Fractions.{Fraction}
 use Rattle.rules.specs.Stamps.{Stamp}
 use Rattle.rules.specs.Paths.{Line, value}
-use Rattle.rules.specs.Boxes.{Ends, behind, overlap, wrong}
+use Rattle.rules.specs.Boxes.{Ends, behind, overlap}
 use Rattle.rules.proofs.Ring.{distr, neg-times}
-use Rattle.rules.proofs.Stamped.{false-true}
-use Rattle.geometry_laws.proofs.Lines.{Pos, lo, hi, pos-dec}
+use Rattle.geometry_laws.proofs.Lines.{Pos, lo, hi}
 
 -- how far the first line is above the second
 abbrev pub diff : Line → Line → Line

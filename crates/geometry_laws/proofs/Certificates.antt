@@ -1,12 +1,11 @@
 -- The first wrong moment of a bit is computed right, and there is only one.
 use mathlib.Core.Path.{_≡_, refl, ap, sym, _∙_, subst}
-use mathlib.Core.Logic.{_⊎_, inl, inr, ⊎-elim}
-use mathlib.Core.Bool.{Bool, true, false, cond, not, _&&_}
+use mathlib.Core.Logic.{_⊎_, inl, inr}
+use mathlib.Core.Bool.{Bool, true, false, not, _&&_}
 use mathlib.Core.List.{List, [], _∷_, _++_, List·Memᴰ·head, List·Memᴰ·tail, List·Memᴰ·not-nil, List·Memᴰ·cases-cons, List·Memᴰ·append-cases, Memᴰ·append-left, Memᴰ·append-right, Memᴰ·cast}
-use Prim.Native.Nat.{ℕ, zero, suc, _+_, _-_, _*_, _≤_, _<_}
+use Prim.Native.Nat.{ℕ, _*_, _≤_, _<_}
 use native.Mathlib.Omega.{arith}
-use lib.IntN.{ℤ, pos, negsuc, natAbs, _+ℤ_, _-ℤ_, _*ℤ_, negℤ}
-use borrow.Author.Differences.{ints, up, down}
+use lib.IntN.{natAbs, _-ℤ_}
 use Rattle.std.specs.Options.{Cases}
 use Rattle.std.proofs.shelf.Tests.{and-from, and-parts, not-true}
 use Rattle.std.specs.declared.option.Option.{Option}
@@ -15,14 +14,13 @@ use Rattle.rules.specs.Basics.{_∈_, those}
 use Rattle.rules.specs.Fractions.{Fraction, Proper, Before, NotAfter, SameTime, Coprime, Least, least, tick, Usual}
 use Rattle.rules.specs.Stamps.{Stamp, Earlier, NotEarlier, side, at, just-after, is-earlier, earliest}
 use Rattle.rules.specs.Paths.{Line}
-use Rattle.rules.specs.Boxes.{Ends, quotient, both-sides, crossing, overlap, behind, wrong, fails, FirstWrong, NeverWrong, Fails}
+use Rattle.rules.specs.Boxes.{Ends, quotient, both-sides, crossing, overlap, wrong, fails, Fails}
 use Rattle.rules.proofs.Stamped.{asym, earlier-dec, not-earlier-trans, not-earlier-out, false-true}
 use Rattle.rules.proofs.Order.{not-after-trans}
 use Rattle.rules.proofs.Made.{least-right, least-inside, least-terms}
 use Rattle.rules.proofs.Unique.{least-unique}
 use Rattle.geometry_laws.specs.Certificates.{Slow, Certificates-right, Certificates-usual, InLeast, Certificates-one}
-use Rattle.geometry_laws.proofs.Lines.{Pos}
-use Rattle.geometry_laws.proofs.Behind.{diff, over, under, overlap-like, not-so}
+use Rattle.geometry_laws.proofs.Behind.{overlap-like, not-so}
 use Rattle.geometry_laws.proofs.Lists.{not-earlier-self, not-earlier-is, not-is-earlier, is-earlier-so, those-in, those-out, Best, earliest-best}
 use Rattle.geometry_laws.proofs.Settled.{Root, quotient-out, Settled, settled}
 

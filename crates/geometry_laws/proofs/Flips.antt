@@ -1,25 +1,24 @@
 -- Bits on fixed lines: at which side they go wrong, and how often.
 use mathlib.Core.Path.{_≡_, refl, ap, sym, _∙_, subst}
-use mathlib.Core.Logic.{_⊎_, inl, inr, ⊎-elim}
+use mathlib.Core.Logic.{inl}
 use mathlib.Core.Bool.{Bool, true, false, not}
-use Prim.Native.Nat.{ℕ, zero, suc, _+_, _-_, _*_, _≤_, _<_}
+use Prim.Native.Nat.{ℕ, zero, suc, _+_, _*_, _<_}
 use native.Mathlib.Omega.{arith}
-use native.Mathlib.Decide.{decLe, decLt}
-use lib.IntN.{ℤ, _-ℤ_}
-use borrow.Author.Differences.{ints, up, down}
+use native.Mathlib.Decide.{decLe}
+use lib.IntN.{_-ℤ_}
+use borrow.Author.Differences.{up, down}
 use Rattle.std.specs.declared.option.Option.{Option}
-use Rattle.std.specs.declared.option.Option.the-variants.{Some, None}
-use Rattle.rules.specs.Fractions.{Fraction, Proper, Before, NotAfter, SameTime, Throughout, tick}
-use Rattle.rules.specs.Stamps.{Stamp, Earlier, NotEarlier, side, at, just-after, is-earlier}
-use Rattle.rules.specs.Paths.{Line}
+use Rattle.std.specs.declared.option.Option.the-variants.{Some}
+use Rattle.rules.specs.Fractions.{Fraction, Proper, Before, NotAfter, tick}
+use Rattle.rules.specs.Stamps.{Stamp, Earlier, at, just-after}
 use Rattle.rules.specs.Boxes.{Ends, overlap, wrong, fails, FirstWrong, Fails}
-use Rattle.rules.proofs.Order.{not-after-before, before-trans}
-use Rattle.rules.proofs.Stamped.{asym, earlier-dec, false-true, not-earlier-out}
-use Rattle.geometry_laws.specs.Certificates.{Slow, Sides-told, FlipsOnce, Flips-once}
-use Rattle.geometry_laws.proofs.Lines.{Pos, lo, hi, pos-weak, up-stays, down-stays, same-time-<, same-time-≡}
-use Rattle.geometry_laws.proofs.Behind.{over, under, overlap-decides, overlap-in, overlap-over, overlap-under, overlap-like, not-so}
-use Rattle.geometry_laws.proofs.Lists.{earlier-is, not-earlier-is, not-is-earlier, is-earlier-so, not-earlier-self}
-use Rattle.geometry_laws.proofs.Soon.{Slope, Slopes, amid, amid-after, amid-before}
+use Rattle.rules.proofs.Order.{not-after-before}
+use Rattle.rules.proofs.Stamped.{earlier-dec, false-true}
+use Rattle.geometry_laws.specs.Certificates.{Slow, Sides-told, Flips-once}
+use Rattle.geometry_laws.proofs.Lines.{pos-weak}
+use Rattle.geometry_laws.proofs.Behind.{over, under, overlap-in, overlap-over, overlap-under}
+use Rattle.geometry_laws.proofs.Lists.{earlier-is, not-earlier-is, not-is-earlier}
+use Rattle.geometry_laws.proofs.Soon.{Slopes, amid, amid-after, amid-before}
 use Rattle.geometry_laws.proofs.Lately.{lately, lately-proper, lately-before, apart-before}
 use Rattle.geometry_laws.proofs.Moments.{at-once-time, overlap-same, at-first, not-between, at-after, not-yet}
 use Rattle.geometry_laws.proofs.Certificates.{certificates-right}

@@ -1,21 +1,21 @@
 -- Just before a time: an overlap holds throughout a stretch, or fails throughout it.
-use mathlib.Core.Path.{_≡_, refl, ap, sym, _∙_, subst}
+use mathlib.Core.Path.{_≡_, refl, ap, sym, _∙_}
 use mathlib.Core.Logic.{_⊎_, inl, inr, ⊎-elim}
-use mathlib.Core.Bool.{Bool, true, false}
+use mathlib.Core.Bool.{true, false}
 use Prim.Native.Nat.{ℕ, zero, suc, _+_, _-_, _*_, _≤_, _<_}
 use native.Mathlib.Omega.{arith}
-use native.Mathlib.Decide.{decLe, decLt}
+use native.Mathlib.Decide.{decLt}
 use native.Mathlib.Nat.{mul-le-mul-right, mul-le-mul-left, mul-pos, lt-of-mul-lt-mul-right}
-use borrow.Author.Differences.{ints, up, down}
-use Rattle.rules.specs.Fractions.{Fraction, Proper, Before, NotAfter, Throughout}
-use Rattle.rules.specs.Stamps.{Stamp, at, just-after}
+use borrow.Author.Differences.{up, down}
+use Rattle.rules.specs.Fractions.{Fraction, Proper, Before, Throughout}
+use Rattle.rules.specs.Stamps.{at}
 use Rattle.rules.specs.Paths.{Line}
 use Rattle.rules.specs.Boxes.{Ends, overlap}
 use Rattle.rules.proofs.Order.{rearrange}
 use Rattle.rules.proofs.Stamped.{false-true}
 use Rattle.geometry_laws.proofs.Lines.{Pos, lo, hi, down-from, rise-<, pos-dec}
 use Rattle.geometry_laws.proofs.Behind.{over, under, overlap-in, apart-over, apart-under}
-use Rattle.geometry_laws.proofs.Soon.{Slope, Slopes}
+use Rattle.geometry_laws.proofs.Soon.{Slopes}
 
 -- so lately before t that no line with a slope of at most w changes its sign but at t
 abbrev pub lately : ℕ → Fraction → Fraction

@@ -1,13 +1,11 @@
 -- Lines over fractions: where a line is above zero, and how that stays or changes.
-use mathlib.Core.Path.{_≡_, refl, ap, sym, _∙_, subst}
+use mathlib.Core.Path.{_≡_, refl, ap, sym, _∙_}
 use mathlib.Core.Logic.{_⊎_, inl, inr, ⊎-elim}
 use mathlib.Core.Bool.{Bool, true, false}
-use Prim.Native.Nat.{ℕ, zero, suc, _+_, _-_, _*_, _≤_, _<_}
+use Prim.Native.Nat.{ℕ, _+_, _*_, _≤_, _<_}
 use native.Mathlib.Omega.{arith}
 use native.Mathlib.Decide.{decLe, decLt}
-use native.Mathlib.Nat.{mul-le-mul-right, mul-le-mul-left, mul-pos, lt-of-mul-lt-mul-right, le-of-mul-le-mul-right, eq-of-mul-eq-mul-right}
-use lib.IntN.{ℤ, pos, negsuc, _+ℤ_, _-ℤ_, _*ℤ_, negℤ}
-use lib.Signed.{_<ℤ_, _≤ℤ_}
+use native.Mathlib.Nat.{mul-le-mul-right, lt-of-mul-lt-mul-right, le-of-mul-le-mul-right, eq-of-mul-eq-mul-right}
 use borrow.Author.Differences.{ints, up, down}
 use Rattle.rules.specs.Fractions.{Fraction, Proper, Before, NotAfter, SameTime}
 use Rattle.rules.specs.Stamps.{Stamp, Earlier, NotEarlier, side}

@@ -1,8 +1,8 @@
 -- The earliest of a list of moments, and those of a list that pass a test.
 use mathlib.Core.Path.{_≡_, refl, ap, sym, _∙_, subst}
-use mathlib.Core.Logic.{_⊎_, inl, inr, ⊎-elim}
+use mathlib.Core.Logic.{_⊎_, inl, inr}
 use mathlib.Core.Bool.{Bool, true, false, cond}
-use mathlib.Core.List.{List, [], _∷_, _++_, List·Memᴰ·head, List·Memᴰ·tail, List·Memᴰ·not-nil, List·Memᴰ·cases-cons}
+use mathlib.Core.List.{List, [], _∷_, List·Memᴰ·head, List·Memᴰ·tail, List·Memᴰ·not-nil, List·Memᴰ·cases-cons}
 use Prim.Native.Nat.{ℕ}
 use native.Mathlib.Omega.{arith}
 use Rattle.std.specs.declared.option.Option.{Option}
@@ -10,7 +10,7 @@ use Rattle.std.specs.declared.option.Option.the-variants.{Some, None}
 use Rattle.rules.specs.Basics.{_∈_, those}
 use Rattle.rules.specs.Fractions.{Proper}
 use Rattle.rules.specs.Stamps.{Stamp, Earlier, NotEarlier, is-earlier, earlier-of, earliest}
-use Rattle.rules.proofs.Stamped.{asym, earlier-trans, earlier-dec, false-true, not-earlier-trans}
+use Rattle.rules.proofs.Stamped.{asym, false-true, not-earlier-trans}
 use Rattle.rules.proofs.Ordering.{tests-right}
 use Rattle.geometry_laws.proofs.Behind.{not-so}
 
@@ -96,6 +96,7 @@ earliest-in (m ∷ ms) P f k e = go (λ j h. earliest-in ms P (λ x i. f x (List
     pick : (j : Stamp) (b : Bool) → P j → Some (cond b j m) ≡ Some k → P k
     pick j true x h = let g : j ≡ k = cc in subst P g x
     pick j false x h = let g : m ≡ k = cc in subst P g (f m (List·Memᴰ·head refl))
+
     go : ((j : Stamp) → earliest ms ≡ Some j → P j) → (o : Option Stamp) → earliest ms ≡ o → Some (earlier-of m o) ≡ Some k → P k
     go r None g h = let e : m ≡ k = cc in subst P e (f m (List·Memᴰ·head refl))
     go r (Some j) g h = pick j (is-earlier j m) (r j g) h

@@ -1,14 +1,14 @@
 -- The same moment, named twice.
-use mathlib.Core.Path.{_≡_, refl, ap, sym, _∙_, subst}
-use mathlib.Core.Logic.{_⊎_, inl, inr, ⊎-elim}
+use mathlib.Core.Path.{_≡_, refl, sym, _∙_}
+use mathlib.Core.Logic.{_⊎_, inl, inr}
 use mathlib.Core.Bool.{Bool, true, false}
-use Prim.Native.Nat.{ℕ, _+_, _*_, _≤_, _<_}
+use Prim.Native.Nat.{_≤_}
 use native.Mathlib.Omega.{arith}
-use Rattle.rules.specs.Fractions.{Fraction, Proper, Before, NotAfter, SameTime}
+use Rattle.rules.specs.Fractions.{Fraction, Proper, Before, SameTime}
 use Rattle.rules.specs.Stamps.{Stamp, Earlier, NotEarlier, side, at, just-after}
 use Rattle.rules.specs.Paths.{Line}
 use Rattle.rules.specs.Boxes.{Ends, overlap}
-use Rattle.rules.proofs.Stamped.{asym, not-earlier-out}
+use Rattle.rules.proofs.Stamped.{not-earlier-out}
 use Rattle.geometry_laws.proofs.Lines.{Pos, same-time-<, same-time-≡}
 use Rattle.geometry_laws.proofs.Behind.{over, under, overlap-like}
 

@@ -1,20 +1,20 @@
 -- Two boxes on their paths: overlap on the legs, over moments.
-use mathlib.Core.Path.{_≡_, refl, ap, ap₂, sym, _∙_, subst}
-use mathlib.Core.Logic.{_⊎_, inl, inr, ⊎-elim}
+use mathlib.Core.Path.{_≡_, refl, ap, ap₂, sym, _∙_}
+use mathlib.Core.Logic.{_⊎_, inl, inr}
 use mathlib.Core.Bool.{Bool, true, false, not, _&&_, _||_}
-use Prim.Native.Nat.{ℕ, zero, suc, _+_, _-_, _*_, _/_, _≤_, _<_}
+use Prim.Native.Nat.{ℕ, _*_, _≤_, _<_}
 use native.Mathlib.Omega.{arith}
-use lib.IntN.{ℤ, pos, _+ℤ_, _-ℤ_, _*ℤ_, negℤ}
-use lib.Signed.{ltZ, leZ, _<ℤ_, _≤ℤ_}
-use borrow.Author.Differences.{ints, up, down, lt-false, false-is-lt}
+use lib.IntN.{ℤ, pos, _+ℤ_, _*ℤ_, negℤ}
+use lib.Signed.{ltZ, _≤ℤ_}
+use borrow.Author.Differences.{ints, false-is-lt}
 use Rattle.std.proofs.shelf.Tests.{and-from, and-parts, not-true, or-parts, or-from}
-use Rattle.rules.specs.Fractions.{Fraction, Proper, Before, NotAfter, SameTime, whole}
-use Rattle.rules.specs.Stamps.{Stamp, Earlier, NotEarlier, side, at, just-after}
-use Rattle.rules.specs.Paths.{Axis, Line, Path, X, Y, Z, speed-at, line-at, leg, value, position}
-use Rattle.rules.specs.Boxes.{Box, down-reach, up-reach, Ends, ends, behind, overlap, Under, Touch, Meets, Parts}
+use Rattle.rules.specs.Fractions.{Fraction, Proper, SameTime}
+use Rattle.rules.specs.Stamps.{Stamp, at, just-after}
+use Rattle.rules.specs.Paths.{Axis, Line, Path, X, Y, Z, line-at, leg, value}
+use Rattle.rules.specs.Boxes.{Box, down-reach, up-reach, ends, behind, overlap, Under}
 use Rattle.rules.proofs.Ring.{distr}
 use Rattle.rules.proofs.Stamped.{false-true}
-use Rattle.geometry_laws.specs.Turns.{near, Near, lead, near-on, Touches-told}
+use Rattle.geometry_laws.specs.Turns.{near, Near, Touches-told}
 use Rattle.geometry_laws.proofs.Moments.{overlap-same}
 use Rattle.geometry_laws.proofs.Flips.{overlap-late}
 use Rattle.geometry_laws.proofs.Paths.{Straight, same-leg, place-straight, whole-same}
@@ -34,6 +34,7 @@ one-of P d = go (d X) (d Y) (d Z)
     all x y z X = x
     all x y z Y = y
     all x y z Z = z
+
     go : Dec (P X) → Dec (P Y) → Dec (P Z) → ((a : Axis) → P a) ⊎ ((a : Axis) × (¬ (P a)))
     go (yes x) (yes y) (yes z) = inl (all x y z)
     go (no x) y z = inr (X, x)
@@ -53,17 +54,19 @@ touches-told p b q d t = ((λ h a. there a (h a)), (λ h a. back a (h a)))
     there : (a : Axis) → Under p b q d t a × Under q d p b t a → Near p b q d a (at t)
     there a h = and-from (not (behind (ends b a (leg p t a) .low) (ends d a (leg q t a) .high) (at t))) (not (behind (ends d a (leg q t a) .low) (ends b a (leg p t a) .high) (at t)))
         (ap not (high-low (ends b a (leg p t a) .low) (ends d a (leg q t a) .high) t (h .0))) (ap not (high-low (ends d a (leg q t a) .low) (ends b a (leg p t a) .high) t (h .1)))
+
     back : (a : Axis) → Near p b q d a (at t) → Under p b q d t a × Under q d p b t a
     back a e =
-        let r = and-parts (not (behind (ends b a (leg p t a) .low) (ends d a (leg q t a) .high) (at t))) (not (behind (ends d a (leg q t a) .low) (ends b a (leg p t a) .high) (at t))) e in
-        (low-high (ends b a (leg p t a) .low) (ends d a (leg q t a) .high) t (not-true (behind (ends b a (leg p t a) .low) (ends d a (leg q t a) .high) (at t)) (r .0)),
-         low-high (ends d a (leg q t a) .low) (ends b a (leg p t a) .high) t (not-true (behind (ends d a (leg q t a) .low) (ends b a (leg p t a) .high) (at t)) (r .1)))
+        let r = and-parts (not (behind (ends b a (leg p t a) .low) (ends d a (leg q t a) .high) (at t))) (not (behind (ends d a (leg q t a) .low) (ends b a (leg p t a) .high) (at t))) e in (
+          low-high (ends b a (leg p t a) .low) (ends d a (leg q t a) .high) t (not-true (behind (ends b a (leg p t a) .low) (ends d a (leg q t a) .high) (at t)) (r .0)),
+          low-high (ends d a (leg q t a) .low) (ends b a (leg p t a) .high) t (not-true (behind (ends d a (leg q t a) .low) (ends b a (leg p t a) .high) (at t)) (r .1)),
+        )
 
 -- ---- a moment named twice
 pub near-same : (p : Path) (b : Box) (q : Path) (d : Box) (a : Axis) (j k : Stamp) → Proper (j .time) → Proper (k .time) → SameTime (j .time) (k .time) → j .after ≡ k .after → near p b q d a j ≡ near p b q d a k
 near-same p b q d a j k pj pk e f =
     overlap-same (ends b a (leg p (j .time) a)) (ends d a (leg q (j .time) a)) j k pj pk e f
-      ∙ ap (λ (i : ℕ). overlap (ends b a (line-at p a i)) (ends d a (line-at q a i)) k) (whole-same (j .time) (k .time) pj pk e)
+    ∙ ap (λ (i : ℕ). overlap (ends b a (line-at p a i)) (ends d a (line-at q a i)) k) (whole-same (j .time) (k .time) pj pk e)
 
 -- just after a time overlap asks for more than at it
 pub near-late : (p : Path) (b : Box) (q : Path) (d : Box) (a : Axis) (t : Fraction) → Near p b q d a (just-after t) → Near p b q d a (at t)
@@ -94,8 +97,9 @@ behind-alike u v u' v' m a b = go (m .after) refl
 
 shift-alike : (l k : Line) (c : ℤ) (m : Stamp) → Alike l k m → Alike (record { base = l .base +ℤ c; slope = l .slope }) (record { base = k .base +ℤ c; slope = k .slope }) m
 shift-alike l k c m h = record {
-    values = shifted (l .base) (l .slope) c (m .time .num) (m .time .den) ∙ ap (λ (x : ℤ). x +ℤ (c *ℤ pos (m .time .den))) (h .values) ∙ sym (shifted (k .base) (k .slope) c (m .time .num) (m .time .den));
-    slopes = h .slopes }
+  values = shifted (l .base) (l .slope) c (m .time .num) (m .time .den) ∙ ap (λ (x : ℤ). x +ℤ (c *ℤ pos (m .time .den))) (h .values) ∙ sym (shifted (k .base) (k .slope) c (m .time .num) (m .time .den));
+  slopes = h .slopes;
+}
 
 -- boxes on lines that are alike have ends that are
 ends-alike : (b : Box) (a : Axis) (l k : Line) (m : Stamp) → Alike l k m → Alike (ends b a l .low) (ends b a k .low) m × Alike (ends b a l .high) (ends b a k .high) m
@@ -106,8 +110,8 @@ overlap-alike b d a l k l' k' m x y =
     let e = ends-alike b a l l' m x in
     let f = ends-alike d a k k' m y in
     ap₂ (λ (s t : Bool). not s && not t)
-        (behind-alike (ends b a l .low) (ends d a k .high) (ends b a l' .low) (ends d a k' .high) m (e .0) (f .1))
-        (behind-alike (ends d a k .low) (ends b a l .high) (ends d a k' .low) (ends b a l' .high) m (f .0) (e .1))
+    (behind-alike (ends b a l .low) (ends d a k .high) (ends b a l' .low) (ends d a k' .high) m (e .0) (f .1))
+    (behind-alike (ends d a k .low) (ends b a l .high) (ends d a k' .low) (ends b a l' .high) m (f .0) (e .1))
 
 -- ---- on a straight stretch of both paths
 module _ (p : Path) (b : Box) (q : Path) (d : Box) (a : Axis) (i e : ℕ) (sp : Straight p a i e) (sq : Straight q a i e) where
@@ -120,5 +124,5 @@ module _ (p : Path) (b : Box) (q : Path) (d : Box) (a : Axis) (i e : ℕ) (sp : 
   pub near-until : i < e → (t : Fraction) → Proper t → i * t .den ≤ t .num → t .num ≤ e * t .den → near p b q d a (at t) ≡ overlap (ends b a (line-at p a i)) (ends d a (line-at q a i)) (at t)
   near-until o t pt x y =
       overlap-alike b d a (leg p t a) (leg q t a) (line-at p a i) (line-at q a i) (at t)
-          (record { values = place-straight p a i e t sp o pt x y; slopes = λ f. absurd (false-true f) })
-          (record { values = place-straight q a i e t sq o pt x y; slopes = λ f. absurd (false-true f) })
+      (record { values = place-straight p a i e t sp o pt x y; slopes = λ f. absurd (false-true f) })
+      (record { values = place-straight q a i e t sq o pt x y; slopes = λ f. absurd (false-true f) })

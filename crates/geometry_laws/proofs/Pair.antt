@@ -1,11 +1,11 @@
 -- The facts of one pair on its paths: overlap on three axes, its meetings and its partings.
-use mathlib.Core.Path.{_≡_, refl, sym, ap, ap₂, _∙_, subst}
-use mathlib.Core.Logic.{_⊎_, inl, inr, ⊎-elim}
+use mathlib.Core.Path.{_≡_, refl, sym, _∙_}
+use mathlib.Core.Logic.{_⊎_, inl, inr}
 use mathlib.Core.Bool.{Bool, true, false}
-use Prim.Native.Nat.{ℕ, zero, suc, _+_, _-_, _*_, _/_, _≤_, _<_}
+use Prim.Native.Nat.{_<_}
 use native.Mathlib.Omega.{arith}
-use Rattle.rules.specs.Fractions.{Fraction, Proper, Before, NotAfter, SameTime}
-use Rattle.rules.specs.Stamps.{Stamp, Earlier, NotEarlier, at, just-after}
+use Rattle.rules.specs.Fractions.{Fraction, Proper, Before, SameTime}
+use Rattle.rules.specs.Stamps.{at, just-after}
 use Rattle.rules.specs.Paths.{Axis, Path}
 use Rattle.rules.specs.Boxes.{Box, Touch, Meets, Parts}
 use Rattle.rules.proofs.Order.{before-not-after, not-after-before}
@@ -14,7 +14,7 @@ use Rattle.geometry_laws.specs.Points.{Point, Sooner, Upto, Same, During, on, 
 use Rattle.geometry_laws.specs.Turns.{near, Near}
 use Rattle.geometry_laws.proofs.Behind.{not-so}
 use Rattle.geometry_laws.proofs.Flips.{between, after-zero}
-use Rattle.geometry_laws.proofs.Moments.{at-after, not-yet, not-between}
+use Rattle.geometry_laws.proofs.Moments.{at-after, not-yet}
 use Rattle.geometry_laws.proofs.Near.{near-same, near-dec, near-late, one-of}
 use Rattle.geometry_laws.proofs.Points.{upto-on, on-past, same-time}
 use Rattle.geometry_laws.proofs.Turns.{touch-near, near-touch, recently, recently-proper, recently-before, apart-lead, parting-told, parting-only}
@@ -27,14 +27,26 @@ pub parts-like : (P Q : Fraction → Type 0) (t : Fraction) → ((r : Fraction) 
 parts-like P Q t f g m = (f t (m .0), (m .1 .0, m .1 .1, m .1 .2, λ r p a b q. m .1 .3 r p a b (g r q)))
 
 pub meets-at : (P : Fraction → Type 0) (s t : Fraction) → Proper s → Proper t → SameTime s t → (P s → P t) → Meets P s → Meets P t
-meets-at P s t ps pt e f m =
-    (f (m .0), (m .1 .0, m .1 .1, before-not-after (m .1 .0) s t ps pt (m .1 .2) (omega (arith, e)),
-      λ r p a b. m .1 .3 r p a (before-not-after r t s pt ps b (omega (arith, e)))))
+meets-at P s t ps pt e f m = (
+  f (m .0),
+  (
+    m .1 .0,
+    m .1 .1,
+    before-not-after (m .1 .0) s t ps pt (m .1 .2) (omega (arith, e)),
+    λ r p a b. m .1 .3 r p a (before-not-after r t s pt ps b (omega (arith, e))),
+  ),
+)
 
 pub parts-at : (P : Fraction → Type 0) (s t : Fraction) → Proper s → Proper t → SameTime s t → (P s → P t) → Parts P s → Parts P t
-parts-at P s t ps pt e f m =
-    (f (m .0), (m .1 .0, m .1 .1, not-after-before t s (m .1 .0) pt ps (omega (arith, e)) (m .1 .2),
-      λ r p a b. m .1 .3 r p (not-after-before s t r ps pt (omega (arith, e)) a) b))
+parts-at P s t ps pt e f m = (
+  f (m .0),
+  (
+    m .1 .0,
+    m .1 .1,
+    not-after-before t s (m .1 .0) pt ps (omega (arith, e)) (m .1 .2),
+    λ r p a b. m .1 .3 r p (not-after-before s t r ps pt (omega (arith, e)) a) b,
+  ),
+)
 
 -- from m until r
 pub from-on : (m : Point) (r : Fraction) (p : Proper r) → Before (m .stamp .time) r → Upto m (on r p)
@@ -56,8 +68,10 @@ module _ (p : Path) (b : Box) (q : Path) (d : Box) where
     where
       l : Before (m .stamp .time) u
       l = at-after (m .stamp) u h
+
       o : 0 < u .num
       o = after-zero (m .stamp .time) u l
+
       go : Dec (Near p b q d a (at u)) → Near p b q d a (at u)
       go (yes x) = x
       go (no x) =
@@ -99,6 +113,7 @@ module _ (p : Path) (b : Box) (q : Path) (d : Box) where
         pick : Touch p b q d u → ¬ (All (past u pu)) → ((a : Axis) → Near p b q d a (just-after u)) ⊎ ((a : Axis) × (¬ (Near p b q d a (just-after u)))) → Parts (Touch p b q d) u
         pick c e (inl a) = absurd (e a)
         pick c e (inr a) = parting-told p b q d u pu c (a .0) (not-so (near p b q d (a .0) (just-after u)) (a .1))
+
         go : (c : Bool) → Tells c (All (on u pu)) → Wrong c (All (past u pu)) → Parts (Touch p b q d) u
         go false f e = absurd (f (λ a. near-late p b q d a u (e a)))
         go true f e = pick (near-touch p b q d u f) e (one-of (λ a. Near p b q d a (just-after u)) (λ a. near-dec p b q d a (just-after u)))

@@ -1,15 +1,15 @@
 -- Paths and their legs: on a straight stretch a path runs on one line, and at the end of it too.
-use mathlib.Core.Path.{_≡_, refl, ap, sym, _∙_, subst}
-use Prim.Native.Nat.{ℕ, zero, suc, _+_, _-_, _*_, _/_, _%_, _≤_, _<_}
+use mathlib.Core.Path.{_≡_, refl, ap, sym, _∙_}
+use Prim.Native.Nat.{ℕ, zero, suc, _+_, _-_, _*_, _≤_, _<_}
 use native.Mathlib.Omega.{arith}
-use native.Mathlib.Decide.{decLe, decLt}
+use native.Mathlib.Decide.{decLt}
 use native.Mathlib.Nat.{mul-le-mul-right, le-div-iff-mul-le, div-lt-iff-lt-mul, div-mul-le-self, lt-div-mul-add, le-antisymm, div-eq-of-eq-mul-left, le-of-mul-le-mul-right}
-use lib.IntN.{ℤ, pos, negsuc, _+ℤ_, _-ℤ_, _*ℤ_, negℤ}
-use borrow.Author.Differences.{ints, up, down}
+use lib.IntN.{ℤ, pos, _+ℤ_, _-ℤ_, _*ℤ_}
+use borrow.Author.Differences.{ints}
 use Rattle.rules.specs.Basics.{_∈_}
-use Rattle.rules.specs.Fractions.{Fraction, Proper, Before, NotAfter, SameTime, whole}
+use Rattle.rules.specs.Fractions.{Fraction, Proper, NotAfter, SameTime, whole}
 use Rattle.rules.specs.Paths.{Axis, Line, Path, speed-at, line-at, leg, value, position, Kept}
-use Rattle.rules.proofs.Ring.{distr, distl, assoc, neg-times}
+use Rattle.rules.proofs.Ring.{distr, assoc, neg-times}
 
 -- on the axis the slope changes at no tick strictly between b and e
 abbrev pub Straight : Path → Axis → ℕ → ℕ → Type 0
@@ -32,7 +32,7 @@ next-base x y z v v' i e f g = rw g (omega (arith, ints, e))
 pub leg-next : (p : Path) (a : Axis) (i : ℕ) → speed-at p a (suc i) ≡ speed-at p a i → line-at p a (suc i) ≡ line-at p a i
 leg-next p a i e =
     line-≡ (line-at p a (suc i)) (line-at p a i)
-        (next-base (p .place a i) (p .place a (suc i)) (p .place a (suc (suc i))) (speed-at p a i) (speed-at p a (suc i)) i refl refl e) e
+    (next-base (p .place a i) (p .place a (suc i)) (p .place a (suc (suc i))) (speed-at p a i) (speed-at p a (suc i)) i refl refl e) e
 
 pub leg-same : (p : Path) (a : Axis) (b e : ℕ) → Straight p a b e → (k : ℕ) → b + k < e → line-at p a (b + k) ≡ line-at p a b
 leg-same p a b e s zero h = ap (line-at p a) (omega arith)
@@ -47,6 +47,7 @@ leg-by p a i x v e f =
   where
     go : (y z : ℤ) → y ≡ x +ℤ (v *ℤ pos i) → z ≡ x +ℤ (v *ℤ pos (suc i)) → z -ℤ y ≡ v
     go y z e f = omega (arith, ints, e, f)
+
     go' : (y : ℤ) → y ≡ x +ℤ (v *ℤ pos i) → y -ℤ (v *ℤ pos i) ≡ x
     go' y e = omega (arith, ints, e)
 
@@ -78,6 +79,7 @@ place-straight p a b e t s o pt h k = go (decLt (whole t) e)
   where
     w-ge : b ≤ whole t
     w-ge = le-div-iff-mul-le pt .1 h
+
     go : Dec (whole t < e) → position p a t ≡ value (line-at p a b) t
     go (yes x) =
         let f : whole t ≡ b + (whole t - b) = omega (arith, w-ge) in
@@ -92,8 +94,8 @@ place-straight p a b e t s o pt h k = go (decLt (whole t) e)
         last-line n =
             let f : e ≡ suc (b + (e - suc b)) = omega arith in
             ap (λ (i : ℕ). p .place a i *ℤ pos (t .den)) f
-              ∙ sym (leg-end p a (b + (e - suc b)) t (n ∙ ap (λ (i : ℕ). i * t .den) f))
-              ∙ ap (λ (l : Line). value l t) (leg-same p a b e s (e - suc b) (omega arith))
+            ∙ sym (leg-end p a (b + (e - suc b)) t (n ∙ ap (λ (i : ℕ). i * t .den) f))
+            ∙ ap (λ (l : Line). value l t) (leg-same p a b e s (e - suc b) (omega arith))
 
 -- before the next break the leg read at b is the leg still
 pub same-leg : (p : Path) (a : Axis) (b e : ℕ) (t : Fraction) → Straight p a b e → Proper t → b * t .den ≤ t .num → t .num < e * t .den → leg p t a ≡ line-at p a b

@@ -1,12 +1,10 @@
 -- The order of moments.
-use mathlib.Core.Path.{_≡_, refl, sym, ap, _∙_, subst}
-use mathlib.Core.Logic.{_⊎_, inl, inr, ⊎-elim}
-use mathlib.Core.Bool.{Bool, true, false}
-use Prim.Native.Nat.{ℕ, _+_, _*_, _≤_, _<_}
+use mathlib.Core.Path.{_≡_, refl, sym, ap, subst}
+use mathlib.Core.Logic.{_⊎_, inl, inr}
 use native.Mathlib.Omega.{arith}
-use Rattle.rules.specs.Fractions.{Fraction, Proper, Before, NotAfter, SameTime}
+use Rattle.rules.specs.Fractions.{Fraction, Proper, SameTime}
 use Rattle.rules.specs.Stamps.{Stamp, Earlier, side}
-use Rattle.rules.proofs.Stamped.{asym, not-earlier-out, earlier-trans, earlier-dec, not-earlier-trans}
+use Rattle.rules.proofs.Stamped.{asym, earlier-trans, earlier-dec, not-earlier-trans}
 use Rattle.geometry_laws.specs.Points.{Point, Sooner, Upto, AtOnce, Same, on, past}
 use Rattle.geometry_laws.proofs.Moments as moment
 

@@ -1,33 +1,31 @@
 -- One quotient is enough for the first wrong moment of a bit.
 use mathlib.Core.Path.{_≡_, refl, ap, sym, _∙_, subst}
-use mathlib.Core.Logic.{_⊎_, inl, inr, ⊎-elim}
+use mathlib.Core.Logic.{inl, inr}
 use mathlib.Core.Bool.{Bool, true, false, cond, not, _&&_}
-use mathlib.Core.List.{List, [], _∷_, _++_, List·Memᴰ·head, List·Memᴰ·tail}
-use Prim.Native.Nat.{ℕ, zero, suc, _+_, _-_, _*_, _≤_, _<_}
+use mathlib.Core.List.{List, [], _∷_, _++_}
+use Prim.Native.Nat.{ℕ, zero, _+_, _*_, _≤_, _<_}
 use native.Mathlib.Omega.{arith}
-use native.Mathlib.Decide.{decLe, decLt}
+use native.Mathlib.Decide.{decLe}
 use native.Mathlib.Nat.{mul-lt-mul-of-pos-right}
-use lib.IntN.{ℤ, pos, negsuc, natAbs, _+ℤ_, _-ℤ_, _*ℤ_, negℤ}
-use lib.Signed.{ltZ, leZ, _<ℤ_, _≤ℤ_}
-use borrow.Author.Differences.{ints, up, down, lt-true, lt-false, true-is-lt}
-use Rattle.std.specs.Options.{Cases}
+use lib.IntN.{ℤ, pos, natAbs, _+ℤ_, _-ℤ_}
+use lib.Signed.{ltZ, _<ℤ_}
+use borrow.Author.Differences.{ints, up, down}
 use Rattle.std.proofs.shelf.Tests.{and-from, and-parts, not-true}
-use Rattle.std.proofs.shelf.Ways.{tells}
 use Rattle.std.specs.declared.option.Option.{Option}
 use Rattle.std.specs.declared.option.Option.the-variants.{Some, None}
-use Rattle.rules.specs.Basics.{_∈_, those}
-use Rattle.rules.specs.Fractions.{Fraction, Proper, Before, NotAfter, Coprime, Least, least, tick, no-time, Usual}
-use Rattle.rules.specs.Stamps.{Stamp, Earlier, NotEarlier, at, just-after, is-earlier, earlier-of, earliest}
-use Rattle.rules.specs.Paths.{Line, value}
-use Rattle.rules.specs.Boxes.{Ends, behind, overlap, quotient, both-sides, crossing, wrong, fails, FirstWrong, NeverWrong, Fails}
+use Rattle.rules.specs.Basics.{those}
+use Rattle.rules.specs.Fractions.{Fraction, Proper, NotAfter, Coprime, Least, tick}
+use Rattle.rules.specs.Stamps.{Stamp, at, just-after, is-earlier, earliest}
+use Rattle.rules.specs.Paths.{Line}
+use Rattle.rules.specs.Boxes.{Ends, behind, overlap, quotient, both-sides, crossing, wrong, fails, NeverWrong, Fails}
 use Rattle.rules.proofs.Stamped.{asym, false-true}
 use Rattle.rules.proofs.Made.{least-right, least-inside}
 use Rattle.geometry_laws.specs.Certificates.{Slow, InLeast}
-use Rattle.geometry_laws.specs.Quick.{sided, met, gaining, moving, quick, Solid, Quick-right}
+use Rattle.geometry_laws.specs.Quick.{sided, met, gaining, moving, Solid, Quick-right}
 use Rattle.geometry_laws.proofs.Lines.{Pos, lo, hi, pos-dec, up-stays, down-stays, rises-late, rises-not-before, falls-at, falls-not-before}
-use Rattle.geometry_laws.proofs.Behind.{diff, over, under, behind-decides, overlap-in, overlap-over, overlap-under, apart-over, apart-under, overlap-like, not-so}
+use Rattle.geometry_laws.proofs.Behind.{diff, over, under, behind-decides, overlap-in, overlap-over, overlap-under, apart-over, apart-under, overlap-like}
 use Rattle.geometry_laws.proofs.Lists.{not-earlier-self, not-earlier-is, not-is-earlier, is-earlier-so, those-out, earliest-first}
-use Rattle.geometry_laws.proofs.Settled.{quotient-some, Root, quotient-out, root-zero, root-at, Crosses, crosses-up, crosses-down, starts-low, starts-high, ends-high, ends-low, other-way}
+use Rattle.geometry_laws.proofs.Settled.{quotient-some, Root, quotient-out, root-zero, root-at, crosses-up, crosses-down, starts-low, starts-high, ends-high, ends-low, other-way}
 use Rattle.geometry_laws.proofs.Certificates.{certificates-one}
 
 -- ---- the time at which two ends have one value
@@ -47,7 +45,8 @@ met-is u v z e = go (quotient-out (v .base -ℤ u .base) (u .slope -ℤ v .slope
           proper = l .proper;
           zero = root-at u v z (root-zero (v .base -ℤ u .base) (u .slope -ℤ v .slope) (z .num) (z .den) (l .same) (r .sign) (r .slope));
           inside = omega (arith, least-inside (natAbs (v .base -ℤ u .base)) (natAbs (u .slope -ℤ v .slope)) 50000 z (r .slope) l (r .inside));
-          coprime = l .coprime }
+          coprime = l .coprime;
+        }
 
 some-none : {A : Type 0} (o : Option A) (x : A) → o ≡ Some x → o ≡ None → ⊥
 some-none o x e f = let z : _≡_ {A = ℕ} 0 1 = cc in omega arith
@@ -65,10 +64,11 @@ module _ (p q : Ends) (m : Stamp) (pm : Proper (m .time)) (r : down (over p q .s
         wrong-then = ap not (apart-over p q (just-after z) (rises-late (over p q) z (x .proper) (x .zero) r));
         right-before = λ j pj s h. ap not (overlap-in p q j
             (rises-not-before (over p q) z (x .proper) (x .zero) r j pj (is-earlier-so j (just-after z) h))
-            (λ y. overlap-under p q m c (down-stays (under p q) m j pm pj (omega arith) (not-is-earlier j m s) y))) }
+            (λ y. overlap-under p q m c (down-stays (under p q) m j pm pj (omega arith) (not-is-earlier j m s) y)));
+      }
   leaves c None e = λ j pj ij s. ap not (overlap-in p q j
       (λ y. let x = crosses-up (q .high .base -ℤ p .low .base) (p .low .slope -ℤ q .high .slope) (p .low .base -ℤ q .high .base) (other-way (p .low .base) (q .high .base)) (starts-low (over p q) m pm r (λ y. overlap-over p q m c y)) r (ends-high (over p q) j pj ij r y) in
-          some-none (quotient (q .high .base -ℤ p .low .base) (p .low .slope -ℤ q .high .slope)) _ (quotient-some (q .high .base -ℤ p .low .base) (p .low .slope -ℤ q .high .slope) (x .slope) (slow .one) (x .sign) (x .inside)) e)
+      some-none (quotient (q .high .base -ℤ p .low .base) (p .low .slope -ℤ q .high .slope)) _ (quotient-some (q .high .base -ℤ p .low .base) (p .low .slope -ℤ q .high .slope) (x .slope) (slow .one) (x .sign) (x .inside)) e)
       (λ y. overlap-under p q m c (down-stays (under p q) m j pm pj (omega arith) (not-is-earlier j m s) y)))
 
   -- it says that they are apart, and p is still below q
@@ -80,7 +80,8 @@ module _ (p q : Ends) (m : Stamp) (pm : Proper (m .time)) (r : down (over p q .s
         inside = x .inside;
         since = not-earlier-is (at z) m (λ y. falls-at (under p q) z (x .proper) (x .zero) f (down-stays (under p q) (at z) m (x .proper) pm (omega arith) (λ w. asym (at z) m y w) c));
         wrong-then = overlap-in p q (at z) (far z (x .proper) (x .zero)) (falls-at (under p q) z (x .proper) (x .zero) f);
-        right-before = λ j pj s h. apart-under p q j (falls-not-before (under p q) z (x .proper) (x .zero) f j pj (is-earlier-so j (at z) h)) }
+        right-before = λ j pj s h. apart-under p q j (falls-not-before (under p q) z (x .proper) (x .zero) f j pj (is-earlier-so j (at z) h));
+      }
   enters far c None e = λ j pj ij s. apart-under p q j (pick j pj ij (pos-dec (under p q) j))
     where
       pick : (j : Stamp) → Proper (j .time) → NotAfter (j .time) (tick 50000) → Dec (Pos (under p q) j) → Pos (under p q) j
@@ -105,11 +106,12 @@ not-both : (p q : Ends) → Solid p → Solid q → (z : Fraction) → Proper z 
 not-both p q sp sq z pz e (inr x) = false-true (x .0)
 not-both p q sp sq z pz e (inl x) =
     below (p .low .base -ℤ q .high .base) (q .low .base -ℤ p .high .base) (p .low .slope -ℤ q .high .slope) (q .low .slope -ℤ p .high .slope) (z .num) (z .den) pz
-        (sizes (p .low .base) (p .high .base) (q .low .base) (q .high .base) (sp .tall) (sq .tall))
-        (slopes (p .low .slope) (p .high .slope) (q .low .slope) (q .high .slope) (sp .level) (sq .level)) e x
+    (sizes (p .low .base) (p .high .base) (q .low .base) (q .high .base) (sp .tall) (sq .tall))
+    (slopes (p .low .slope) (p .high .slope) (q .low .slope) (q .high .slope) (sp .level) (sq .level)) e x
   where
     sizes : (a b c d : ℤ) → a <ℤ b → c <ℤ d → ((a -ℤ d) +ℤ (c -ℤ b)) <ℤ pos 0
     sizes a b c d h k = omega (arith, ints)
+
     slopes : (a b c d : ℤ) → a ≡ b → c ≡ d → (a -ℤ d) +ℤ (c -ℤ b) ≡ pos 0
     slopes a b c d h k = omega (arith, ints, h, k)
 
@@ -126,9 +128,12 @@ overlap-swap p q m = flip (not (behind (q .low) (p .high) m)) (not (behind (p .l
 fails-swap : (bit : Bool) (p q : Ends) (m : Stamp) (o : Option Stamp) → Fails bit q p m o → Fails bit p q m o
 fails-swap bit p q m None x = λ j pj ij s. sym (ap (wrong bit) (overlap-swap p q j)) ∙ x j pj ij s
 fails-swap bit p q m (Some k) x = record {
-    proper = x .proper; inside = x .inside; since = x .since;
-    wrong-then = sym (ap (wrong bit) (overlap-swap p q k)) ∙ x .wrong-then;
-    right-before = λ j pj s e. sym (ap (wrong bit) (overlap-swap p q j)) ∙ x .right-before j pj s e }
+  proper = x .proper;
+  inside = x .inside;
+  since = x .since;
+  wrong-then = sym (ap (wrong bit) (overlap-swap p q k)) ∙ x .wrong-then;
+  right-before = λ j pj s e. sym (ap (wrong bit) (overlap-swap p q j)) ∙ x .right-before j pj s e;
+}
 
 -- ---- a bit that is right at m
 still : (bit x : Bool) → wrong bit x ≡ false → x ≡ bit
@@ -142,8 +147,10 @@ gaining-fails bit p q m pm sp sq slow g e = go bit (still bit (overlap p q m) e)
   where
     steep : (a b c d : ℤ) → c <ℤ a → a ≡ b → c ≡ d → (down (a -ℤ d) < up (a -ℤ d)) × (up (c -ℤ b) < down (c -ℤ b))
     steep a b c d h k l = (omega (arith, ints, k, l), omega (arith, ints, k, l))
+
     up-down : (down (over p q .slope) < up (over p q .slope)) × (up (under p q .slope) < down (under p q .slope))
     up-down = steep (p .low .slope) (p .high .slope) (q .low .slope) (q .high .slope) g (sp .level) (sq .level)
+
     apart : overlap p q m ≡ false → (b : Bool) → behind (q .low) (p .high) m ≡ b → Fails false p q m (cond b (met (q .low) (p .high) false) None)
     apart c true h = enters p q m pm (up-down .0) (up-down .1) slow (not-both p q sp sq) (behind-decides (q .low) (p .high) m .0 h) _ refl
     apart c false h = gone p q m pm (up-down .0) (up-down .1) slow (pick (pos-dec (over p q) m))
@@ -151,6 +158,7 @@ gaining-fails bit p q m pm sp sq slow g e = go bit (still bit (overlap p q m) e)
         pick : Dec (Pos (over p q) m) → Pos (over p q) m
         pick (yes x) = x
         pick (no x) = absurd (false-true (sym c ∙ overlap-in p q m x (λ y. false-true (sym h ∙ behind-decides (q .low) (p .high) m .1 y))))
+
     go : (bit : Bool) → overlap p q m ≡ bit → Fails bit p q m (gaining bit p q m)
     go true c = leaves p q m pm (up-down .0) (up-down .1) slow c _ refl
     go false c = apart c (behind (q .low) (p .high) m) refl
@@ -161,14 +169,19 @@ level-never bit p q m pm sp sq g e j pj ij s = ap (wrong bit) (overlap-like p q 
   where
     flat : (a b c d : ℤ) → a ≡ c → a ≡ b → c ≡ d → ((up (a -ℤ d) ≤ down (a -ℤ d)) × (down (a -ℤ d) ≤ up (a -ℤ d))) × ((up (c -ℤ b) ≤ down (c -ℤ b)) × (down (c -ℤ b) ≤ up (c -ℤ b)))
     flat a b c d h k l = ((omega (arith, ints, h, k, l), omega (arith, ints, h, k, l)), (omega (arith, ints, h, k, l), omega (arith, ints, h, k, l)))
+
     flats : ((up (over p q .slope) ≤ down (over p q .slope)) × (down (over p q .slope) ≤ up (over p q .slope))) × ((up (under p q .slope) ≤ down (under p q .slope)) × (down (under p q .slope) ≤ up (under p q .slope)))
     flats = flat (p .low .slope) (p .high .slope) (q .low .slope) (q .high .slope) g (sp .level) (sq .level)
+
     flat-over : (up (over p q .slope) ≤ down (over p q .slope)) × (down (over p q .slope) ≤ up (over p q .slope))
     flat-over = flats .0
+
     flat-under : (up (under p q .slope) ≤ down (under p q .slope)) × (down (under p q .slope) ≤ up (under p q .slope))
     flat-under = flats .1
+
     back : (l : Line) → (up (l .slope) ≤ down (l .slope)) × (down (l .slope) ≤ up (l .slope)) → Pos l j → Pos l m
     back l h x = down-stays l m j pm pj (h .0) (not-is-earlier j m s) x
+
     forth : (l : Line) → (up (l .slope) ≤ down (l .slope)) × (down (l .slope) ≤ up (l .slope)) → Pos l m → Pos l j
     forth l h x = up-stays l m j pm pj (h .1) (not-is-earlier j m s) x
 
@@ -180,8 +193,10 @@ moving-fails bit p q m pm sp sq slow e = go (ltZ (q .low .slope) (p .low .slope)
   where
     less : (a b : ℤ) → ltZ a b ≡ true → a <ℤ b
     less a b h = omega (arith, ints, h)
+
     even : (a b : ℤ) → ltZ a b ≡ false → ltZ b a ≡ false → b ≡ a
     even a b h k = omega (arith, ints, h, k)
+
     go : (x : Bool) → ltZ (q .low .slope) (p .low .slope) ≡ x → (y : Bool) → ltZ (p .low .slope) (q .low .slope) ≡ y → Fails bit p q m (cond x (gaining bit p q m) (cond y (gaining bit q p m) None))
     go true h y k = gaining-fails bit p q m pm sp sq slow (less (q .low .slope) (p .low .slope) h) e
     go false h true k = fails-swap bit p q m (gaining bit q p m) (gaining-fails bit q p m pm sq sp (slow-swap p q slow) (less (p .low .slope) (q .low .slope) k) (ap (wrong bit) (overlap-swap p q m) ∙ e))
@@ -232,6 +247,7 @@ steep-moving bit p q m a b = go (ltZ (q .low .slope) (p .low .slope)) (ltZ (p .l
         pick : (c : Bool) → cond c (met (q .low) (p .high) false) None ≡ None
         pick true = met-none (q .low) (p .high) false b
         pick false = refl
+
     go : (x y : Bool) → cond x (gaining bit p q m) (cond y (gaining bit q p m) None) ≡ None
     go true y = other bit p q a b
     go false true = other bit q p b a
@@ -242,7 +258,7 @@ steep-fails bit p q m a b e =
     let x : crossing (p .low) (q .high) ≡ [] = ap both-sides (steep-none (q .high .base -ℤ p .low .base) (p .low .slope -ℤ q .high .slope) a) in
     let y : crossing (q .low) (p .high) ≡ [] = ap both-sides (steep-none (p .high .base -ℤ q .low .base) (q .low .slope -ℤ p .high .slope) b) in
     ap (λ (xs : List Stamp). earliest (those (λ k. not (is-earlier k m) && wrong bit (overlap p q k)) (m ∷ xs))) (ap (λ (xs : List Stamp). xs ++ crossing (q .low) (p .high)) x ∙ y)
-      ∙ ap (λ (c : Bool). earliest (cond c (m ∷ []) [])) (none (not (is-earlier m m)) (wrong bit (overlap p q m)) e)
+    ∙ ap (λ (c : Bool). earliest (cond c (m ∷ []) [])) (none (not (is-earlier m m)) (wrong bit (overlap p q m)) e)
   where
     none : (x y : Bool) → y ≡ false → (x && y) ≡ false
     none true y e = e
@@ -252,7 +268,7 @@ steep-fails bit p q m a b e =
 pub wrong-now : (bit : Bool) (p q : Ends) (m : Stamp) → wrong bit (overlap p q m) ≡ true → fails bit p q m ≡ Some m
 wrong-now bit p q m e =
     ap (λ (c : Bool). earliest (cond c (m ∷ rest) rest)) (and-from (not (is-earlier m m)) (wrong bit (overlap p q m)) (ap not (not-earlier-is m m (not-earlier-self m))) e)
-      ∙ earliest-first m rest (λ x h. not-true (is-earlier x m) (and-parts (not (is-earlier x m)) (wrong bit (overlap p q x)) (those-out (λ k. not (is-earlier k m) && wrong bit (overlap p q k)) (crossing (p .low) (q .high) ++ crossing (q .low) (p .high)) x h .1) .0))
+    ∙ earliest-first m rest (λ x h. not-true (is-earlier x m) (and-parts (not (is-earlier x m)) (wrong bit (overlap p q x)) (those-out (λ k. not (is-earlier k m) && wrong bit (overlap p q k)) (crossing (p .low) (q .high) ++ crossing (q .low) (p .high)) x h .1) .0))
   where
     rest : List Stamp
     rest = those (λ k. not (is-earlier k m) && wrong bit (overlap p q k)) (crossing (p .low) (q .high) ++ crossing (q .low) (p .high))
@@ -262,15 +278,19 @@ quick-right bit p q m u sp sq = go (wrong bit (overlap p q m)) refl
   where
     im : NotAfter (m .time) (tick 50000)
     im = omega (arith, u .inside)
+
     slopes : (a b c d : ℤ) → a ≡ b → c ≡ d → natAbs (a -ℤ d) ≡ natAbs (c -ℤ b)
     slopes a b c d h k = omega (arith, ints, h, k)
+
     same : natAbs (p .low .slope -ℤ q .high .slope) ≡ natAbs (q .low .slope -ℤ p .high .slope)
     same = slopes (p .low .slope) (p .high .slope) (q .low .slope) (q .high .slope) (sp .level) (sq .level)
+
     right : wrong bit (overlap p q m) ≡ false → Dec (natAbs (p .low .slope -ℤ q .high .slope) ≤ 16000) → moving bit p q m ≡ fails bit p q m
     right e (yes h) =
         let s : Slow p q = record { one = h; two = omega (arith, same) } in
         certificates-one bit p q m (moving bit p q m) (u .proper) im s (u .coprime) (moving-fails bit p q m (u .proper) sp sq s e) (moving-least bit p q m)
     right e (no h) = steep-moving bit p q m (omega arith) (omega (arith, same)) ∙ sym (steep-fails bit p q m (omega arith) (omega (arith, same)) e)
+
     go : (b : Bool) → wrong bit (overlap p q m) ≡ b → cond b (Some m) (moving bit p q m) ≡ fails bit p q m
     go true e = sym (wrong-now bit p q m e)
     go false e = right e (decLe (natAbs (p .low .slope -ℤ q .high .slope)) 16000)

@@ -1,9 +1,8 @@
 -- Boxes on lines that a scale of at most 8 allows.
-use mathlib.Core.Path.{_≡_, refl, ap, sym, _∙_}
-use mathlib.Core.Bool.{Bool, true, false, _&&_}
-use Prim.Native.Nat.{ℕ, _*_, _≤_, _<_}
+use mathlib.Core.Path.{_≡_, refl}
+use mathlib.Core.Bool.{true, _&&_}
+use Prim.Native.Nat.{ℕ, _*_, _≤_}
 use native.Mathlib.Omega.{arith}
-use native.Mathlib.Nat.{mul-le-mul-left}
 use lib.Dec.{leb}
 use lib.IntN.{ℤ, pos, natAbs, _+ℤ_, _-ℤ_}
 use lib.Signed.{_<ℤ_}
@@ -11,7 +10,7 @@ use borrow.Author.Differences.{ints}
 use borrow.Author.Tests.{leb-true}
 use Rattle.std.proofs.shelf.Tests.{and-parts}
 use Rattle.rules.specs.Paths.{Axis, X, Y, Z, Line, Path, line-at, Kept}
-use Rattle.rules.specs.Boxes.{Box, box-right, Ends, ends}
+use Rattle.rules.specs.Boxes.{Box, box-right, ends}
 use Rattle.geometry_laws.specs.Certificates.{Slow}
 use Rattle.geometry_laws.specs.Quick.{Solid}
 
@@ -34,11 +33,13 @@ half-some b e a = go a
   where
     two : (x : ℕ) → (leb 1 x && leb x 1000) ≡ true → (1 ≤ x) × (x ≤ 1000)
     two x f = let r = and-parts (leb 1 x) (leb x 1000) f in (leb-true 1 x (r .0), leb-true x 1000 (r .1))
+
     parts : ((leb 1 (b .half X) && leb (b .half X) 1000) ≡ true) × ((leb 1 (b .half Y) && leb (b .half Y) 1000) ≡ true) × ((leb 1 (b .half Z) && leb (b .half Z) 1000) ≡ true)
     parts =
         let r = and-parts ((leb 1 (b .half X) && leb (b .half X) 1000) && (leb 1 (b .half Y) && leb (b .half Y) 1000)) (leb 1 (b .half Z) && leb (b .half Z) 1000) e in
         let q = and-parts (leb 1 (b .half X) && leb (b .half X) 1000) (leb 1 (b .half Y) && leb (b .half Y) 1000) (r .0) in
         (q .0, q .1, r .1)
+
     go : (a : Axis) → (1 ≤ b .half a) × (b .half a ≤ 1000)
     go X = two (b .half X) (parts .0)
     go Y = two (b .half Y) (parts .1)

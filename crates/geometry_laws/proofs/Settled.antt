@@ -1,28 +1,25 @@
 -- Whether one end is behind another changes only where the two have one value: at that time, or just after it.
-use mathlib.Core.Path.{_≡_, refl, ap, sym, _∙_, subst}
-use mathlib.Core.Logic.{_⊎_, inl, inr, ⊎-elim}
+use mathlib.Core.Path.{_≡_, refl, ap, sym, subst}
+use mathlib.Core.Logic.{_⊎_, inl, inr}
 use mathlib.Core.Bool.{Bool, true, false, cond, not, _&&_}
-use mathlib.Core.List.{List, [], _∷_, _++_, List·Memᴰ·head, List·Memᴰ·tail, List·Memᴰ·not-nil, List·Memᴰ·cases-cons}
-use Prim.Native.Nat.{ℕ, zero, suc, _+_, _-_, _*_, _≤_, _<_}
+use mathlib.Core.List.{List, List·Memᴰ·head, List·Memᴰ·tail}
+use Prim.Native.Nat.{ℕ, zero, suc, _+_, _*_, _≤_, _<_}
 use native.Mathlib.Omega.{arith}
 use native.Mathlib.Decide.{decLe, decLt}
-use native.Mathlib.Nat.{mul-le-mul-right, mul-le-mul-left, mul-pos, le-of-mul-le-mul-right, mul-lt-mul-of-pos-right}
-use lib.Dec.{ltb, leb}
-use lib.IntN.{ℤ, pos, negsuc, natAbs, _+ℤ_, _-ℤ_, _*ℤ_, negℤ}
-use lib.Signed.{leZ, _<ℤ_, _≤ℤ_}
-use borrow.Author.Differences.{ints, up, down, true-is-le, product-is}
-use borrow.Author.Tests.{lt-ltb, le-leb, leb-true, ltb-true}
+use native.Mathlib.Nat.{mul-le-mul-right, le-of-mul-le-mul-right}
+use lib.IntN.{ℤ, pos, negsuc, natAbs, _-ℤ_, _*ℤ_, negℤ}
+use lib.Signed.{leZ, _≤ℤ_}
+use borrow.Author.Differences.{ints, up, down, true-is-le}
 use Rattle.std.proofs.shelf.Tests.{and-from, and-parts}
 use Rattle.std.proofs.shelf.Ways.{tells}
-use Rattle.std.specs.declared.option.Option.{Option}
 use Rattle.std.specs.declared.option.Option.the-variants.{Some, None}
 use Rattle.rules.specs.Basics.{_∈_}
-use Rattle.rules.specs.Fractions.{Fraction, Proper, Before, NotAfter, Least, least, tick, no-time}
-use Rattle.rules.specs.Stamps.{Stamp, Earlier, NotEarlier, at, just-after}
-use Rattle.rules.specs.Paths.{Line, value}
+use Rattle.rules.specs.Fractions.{Fraction, Proper, NotAfter, Least, least, tick, no-time}
+use Rattle.rules.specs.Stamps.{Stamp, NotEarlier, at, just-after}
+use Rattle.rules.specs.Paths.{Line}
 use Rattle.rules.specs.Boxes.{quotient, both-sides, crossing}
-use Rattle.rules.proofs.Stamped.{asym, earlier-dec, not-earlier-trans, not-earlier-out}
-use Rattle.rules.proofs.Made.{least-right, least-inside, least-terms}
+use Rattle.rules.proofs.Stamped.{asym}
+use Rattle.rules.proofs.Made.{least-right}
 use Rattle.geometry_laws.proofs.Lines.{Pos, lo, hi, pos-dec, up-stays, down-stays, rises-late, rises-not-before, falls-at, falls-not-before, rise-≤}
 use Rattle.geometry_laws.proofs.Behind.{diff}
 use Rattle.geometry_laws.proofs.Lists.{not-earlier-self}

@@ -1,14 +1,13 @@
 -- Just after a time: what holds at side 1 holds on a stretch.
-use mathlib.Core.Path.{_≡_, refl, ap, sym, _∙_, subst}
-use mathlib.Core.Logic.{_⊎_, inl, inr, ⊎-elim}
-use mathlib.Core.Bool.{Bool, true, false}
-use Prim.Native.Nat.{ℕ, zero, suc, _+_, _-_, _*_, _≤_, _<_}
+use mathlib.Core.Path.{_≡_, refl}
+use mathlib.Core.Logic.{inl, inr}
+use Prim.Native.Nat.{ℕ, _+_, _*_, _≤_, _<_}
 use native.Mathlib.Omega.{arith}
 use native.Mathlib.Decide.{decLe, decLt}
 use native.Mathlib.Nat.{mul-le-mul-right, mul-le-mul-left, mul-pos, lt-of-mul-lt-mul-right}
-use borrow.Author.Differences.{ints, up, down}
-use Rattle.rules.specs.Fractions.{Fraction, Proper, Before, NotAfter, Throughout}
-use Rattle.rules.specs.Stamps.{Stamp, at, just-after}
+use borrow.Author.Differences.{up, down}
+use Rattle.rules.specs.Fractions.{Fraction, Proper, Before, Throughout}
+use Rattle.rules.specs.Stamps.{at, just-after}
 use Rattle.rules.specs.Paths.{Line}
 use Rattle.rules.specs.Boxes.{Ends, overlap}
 use Rattle.rules.proofs.Order.{rearrange}

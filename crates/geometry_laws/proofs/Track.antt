@@ -1,20 +1,15 @@
 -- Bits and their certificates as the present moves on.
-use mathlib.Core.Path.{_≡_, refl, ap, sym, _∙_, subst}
-use mathlib.Core.Logic.{_⊎_, inl, inr}
+use mathlib.Core.Path.{_≡_, refl, sym, _∙_}
 use mathlib.Core.Bool.{Bool, true, false, not}
-use Prim.Native.Nat.{ℕ, _*_, _≤_, _<_}
-use native.Mathlib.Omega.{arith}
 use Rattle.std.specs.Options.{Cases}
 use Rattle.std.specs.declared.option.Option.{Option}
 use Rattle.std.specs.declared.option.Option.the-variants.{Some, None}
-use Rattle.rules.specs.Fractions.{Fraction, Proper, NotAfter, tick}
-use Rattle.rules.specs.Stamps.{Stamp, Earlier, NotEarlier, is-earlier}
-use Rattle.rules.specs.Boxes.{Ends, overlap, wrong, fails, FirstWrong, NeverWrong, Fails}
+use Rattle.rules.specs.Fractions.{Proper, NotAfter, tick}
+use Rattle.rules.specs.Stamps.{Stamp, Earlier, NotEarlier}
+use Rattle.rules.specs.Boxes.{Ends, overlap, wrong, FirstWrong, NeverWrong, Fails}
 use Rattle.rules.proofs.Stamped.{not-earlier-trans, false-true}
-use Rattle.geometry_laws.specs.Certificates.{InLeast}
 use Rattle.geometry_laws.specs.Points.{Tells, Wrong}
-use Rattle.geometry_laws.proofs.Lists.{not-earlier-is, not-is-earlier, earlier-is, is-earlier-so}
-use Rattle.geometry_laws.proofs.Certificates.{certificates-right, fails-least, fails-one}
+use Rattle.geometry_laws.proofs.Lists.{not-earlier-is, not-is-earlier, earlier-is}
 
 -- a bit that is not wrong tells what is so
 pub not-wrong : (bit x : Bool) → wrong bit x ≡ false → x ≡ bit
@@ -56,8 +51,12 @@ module _ (bit : Bool) (p q : Ends) (m : Stamp) where
   module _ (n : Stamp) (pm : Proper (m .time)) (pn : Proper (n .time)) (h : NotEarlier n m) where
     pub first-advance : (k : Stamp) → NotEarlier k n → FirstWrong bit p q m k → FirstWrong bit p q n k
     first-advance k g x = record {
-        proper = x .proper; inside = x .inside; since = not-earlier-is k n g; wrong-then = x .wrong-then;
-        right-before = λ j pj s e. x .right-before j pj (not-earlier-is j m (not-earlier-trans m n j pm pn pj h (not-is-earlier j n s))) e }
+      proper = x .proper;
+      inside = x .inside;
+      since = not-earlier-is k n g;
+      wrong-then = x .wrong-then;
+      right-before = λ j pj s e. x .right-before j pj (not-earlier-is j m (not-earlier-trans m n j pm pn pj h (not-is-earlier j n s))) e;
+    }
 
     pub never-advance : NeverWrong bit p q m → NeverWrong bit p q n
     never-advance x j pj i s = x j pj i (not-earlier-is j m (not-earlier-trans m n j pm pn pj h (not-is-earlier j n s)))

@@ -1,14 +1,14 @@
 -- What the first wrong moment of a bit comes to.
 use mathlib.Core.Bool.{Bool, true, false, not}
 use mathlib.Core.Path.{_≡_}
-use Prim.Native.Nat.{ℕ, _≤_}
+use Prim.Native.Nat.{_≤_}
 use lib.IntN.{natAbs, _-ℤ_}
 use Rattle.std.specs.Options.{Cases}
 use Rattle.std.specs.declared.option.Option.{Option}
-use Rattle.std.specs.declared.option.Option.the-variants.{Some, None}
+use Rattle.std.specs.declared.option.Option.the-variants.{Some}
 use Rattle.rules.specs.Fractions.{Proper, NotAfter, Coprime, Usual, tick}
 use Rattle.rules.specs.Stamps.{Stamp, is-earlier}
-use Rattle.rules.specs.Boxes.{Ends, overlap, wrong, fails, Fails, FirstWrong, NeverWrong}
+use Rattle.rules.specs.Boxes.{Ends, overlap, wrong, fails, Fails}
 
 -- the slopes of the ends that can come to one value differ by at most 16,000: so it is with any lines that a scale of at most 8 allows
 pub record Slow (p q : Ends) : Type 0 where

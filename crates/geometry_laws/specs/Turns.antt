@@ -1,11 +1,11 @@
 -- Meetings and partings of two boxes on their paths, told by the overlap on their legs.
 use mathlib.Core.Bool.{Bool, true, false}
 use mathlib.Core.Path.{_≡_}
-use Prim.Native.Nat.{ℕ, _-_, _/_, _<_}
+use Prim.Native.Nat.{ℕ, _-_, _/_}
 use Rattle.rules.specs.Fractions.{Fraction, Proper, Before, Throughout}
 use Rattle.rules.specs.Stamps.{Stamp, at, just-after}
 use Rattle.rules.specs.Paths.{Axis, Path, line-at, leg}
-use Rattle.rules.specs.Boxes.{Box, Ends, ends, overlap, Touch, Meets, Parts}
+use Rattle.rules.specs.Boxes.{Box, ends, overlap, Touch, Meets, Parts}
 
 -- whether the boxes overlap on an axis at a moment, each on the leg that its path then begins or is on
 abbrev pub near : Path → Box → Path → Box → Axis → Stamp → Bool

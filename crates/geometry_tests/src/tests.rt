@@ -13,7 +13,15 @@ use times::refusal::RefusalDebug;
 use times::refusal::RefusalPartialEq;
 
 // the bit, two lines (a, v) with half sizes, the moment (n, d, side), and the first wrong one, or side 2 for never
-type Row = (bool, (i32, i32), u16, (i32, i32), u16, (u32, u16, u8), (u32, u16, u8));
+type Row = (
+    bool,
+    (i32, i32),
+    u16,
+    (i32, i32),
+    u16,
+    (u32, u16, u8),
+    (u32, u16, u8),
+);
 
 const NEVER: (u32, u16, u8) = (0, 1, 2);
 
@@ -54,13 +62,61 @@ const LIMITS: [Row; 12] = [
     (false, (0, 2), 1, (100003, 0), 1, (0, 1, 0), NEVER),
     (false, (0, 2), 1, (100001, 0), 1, (0, 1, 0), (99999, 2, 0)),
     // the largest speeds and distances
-    (false, (-400000000, 8000), 1000, (400000000, -8000), 1000, (0, 1, 0), (399999, 8, 0)),
-    (false, (-399999999, 8000), 1, (400000000, -8000), 1, (0, 1, 0), (799999997, 16000, 0)),
-    (true, (-400000000, 8000), 1000, (400000000, -8000), 1000, (50000, 1, 0), NEVER),
-    (false, (-808000000, 8000), 1000, (808000000, -8000), 1000, (0, 1, 0), NEVER),
+    (
+        false,
+        (-400000000, 8000),
+        1000,
+        (400000000, -8000),
+        1000,
+        (0, 1, 0),
+        (399999, 8, 0),
+    ),
+    (
+        false,
+        (-399999999, 8000),
+        1,
+        (400000000, -8000),
+        1,
+        (0, 1, 0),
+        (799999997, 16000, 0),
+    ),
+    (
+        true,
+        (-400000000, 8000),
+        1000,
+        (400000000, -8000),
+        1000,
+        (50000, 1, 0),
+        NEVER,
+    ),
+    (
+        false,
+        (-808000000, 8000),
+        1000,
+        (808000000, -8000),
+        1000,
+        (0, 1, 0),
+        NEVER,
+    ),
     // slopes that no scale allows have no crossing that is a time
-    (false, (-2147483648, 2147483647), 1, (2147483647, -2147483648), 1, (0, 1, 0), NEVER),
-    (true, (-2147483648, 2147483647), 1, (2147483647, -2147483648), 1, (0, 1, 0), (0, 1, 0)),
+    (
+        false,
+        (-2147483648, 2147483647),
+        1,
+        (2147483647, -2147483648),
+        1,
+        (0, 1, 0),
+        NEVER,
+    ),
+    (
+        true,
+        (-2147483648, 2147483647),
+        1,
+        (2147483647, -2147483648),
+        1,
+        (0, 1, 0),
+        (0, 1, 0),
+    ),
 ];
 
 fn told(m: Option<Moment>) -> (u32, u16, u8) {
@@ -74,7 +130,10 @@ fn holds(row: Row) -> Result<(), Fail> {
     let (bit, p, g, q, h, (n, d, side), want) = row;
     let p = Span::new(p, HalfSizes::new(1000, g, 1)?, Axis::Y);
     let q = Span::new(q, HalfSizes::new(1000, h, 1)?, Axis::Y);
-    let from = Moment { time: Time::new(n, d)?, after: side == 1 };
+    let from = Moment {
+        time: Time::new(n, d)?,
+        after: side == 1,
+    };
     check_eq(told(first_wrong(bit, p, q, from)), want)?;
     check_eq(told(first_wrong(bit, q, p, from)), want)
 }

@@ -17,7 +17,10 @@ pub(crate) fn gap(p: Span, q: Span) -> Gap
     ensures { λ r. ⌜ gap-of r ≡ difference (span-of p .low) (span-of q .high) ⌝ }
 {
     let reach = i64::from(p.down) + i64::from(q.up);
-    Gap { a: i64::from(p.a) - i64::from(q.a) - reach, v: i64::from(p.v) - i64::from(q.v) }
+    Gap {
+        a: i64::from(p.a) - i64::from(q.a) - reach,
+        v: i64::from(p.v) - i64::from(q.v),
+    }
 }
 
 /// The gap at a time, times the time's denominator.
@@ -53,5 +56,9 @@ fn crossing(n: i64, s: i64, after: bool) -> Option<Moment>
 pub(crate) fn closing(g: Gap, after: bool) -> Option<Moment>
     ensures { λ r. ⌜ stamp-told r ≡ sided after (quotient (negℤ (gap-of g .base)) (gap-of g .slope)) ⌝ }
 {
-    if g.v < 0 { crossing(g.a, -g.v, after) } else { crossing(-g.a, g.v, after) }
+    if g.v < 0 {
+        crossing(g.a, -g.v, after)
+    } else {
+        crossing(-g.a, g.v, after)
+    }
 }

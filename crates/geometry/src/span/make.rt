@@ -12,6 +12,11 @@ impl Span {
         ensures { λ r. ⌜ span-of r ≡ ends (box-of sizes) (axis-of axis) (line-of line) ⌝ }
     {
         let half = sizes.on(axis);
-        Span { a: line.0, v: line.1, down: half, up: half }
+        Span {
+            a: line.0,
+            v: line.1,
+            down: half,
+            up: half,
+        }
     }
 }
