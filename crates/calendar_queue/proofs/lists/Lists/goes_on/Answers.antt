@@ -24,7 +24,7 @@ returns-in-Some c =
     (λ (k : ℕ). c .before-in-Some .result ≡ leads (links (s .next) k) (table (s .moments) (links (s .next) k)) (c .args .wanted .slot) (Some (c .args .wanted .moment)))
     (c .from .ensures)
     (c .before-in-Some .ensures
-        ∙ ahead-is (links (s .next) (c .from .result)) (c .args .wanted .slot) (c .in-Some .moment) (c .args .wanted .moment)
+    ∙ ahead-is (links (s .next) (c .from .result)) (c .args .wanted .slot) (c .in-Some .moment) (c .args .wanted .moment)
     ∙ sym (leads-both _ _ (table (s .moments) (links (s .next) (c .from .result))) (Some (c .args .wanted .moment)) (c .in-Some .moment) (c .args .wanted .moment) (sym (c .in-Some .ensures tt)) refl))
 
 pub returns-in-None : need.returns-in-None
