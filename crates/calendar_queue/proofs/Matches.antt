@@ -16,9 +16,9 @@ use Rattle.std.specs.declared.option.Option.the-variants.{Some, None}
 use Rattle.times.specs.declared.moment.Moment.{Moment}
 use Rattle.times.proofs.Times.{time-≡, moment-≡}
 use Rattle.calendar_queue.specs.declared.entry.Entry.{Entry}
-use Rattle.calendar_queue.specs.Entries.{ahead}
+use Rattle.calendar_queue.specs.Entries.{in-order, ahead}
 use Rattle.calendar_queue.specs.Crowns.{better, node, Won, Matched, MatchedBut}
-use Rattle.calendar_queue.proofs.Order.{ahead-chain, ahead-never, not-ahead-chain}
+use Rattle.calendar_queue.proofs.Order.{ahead-is, ahead-chain, ahead-never, not-ahead-chain}
 
 -- entries are a set: their numbers tell them apart
 unfoldable numbers : Option Entry → Unit {0} ⊎ (ℕ × (ℕ × (ℕ × Bool)))
@@ -204,9 +204,9 @@ pub better-left : (x y : Option Entry) (l : Entry) → x ≡ Some l → y ≡ No
 unfolding better
 better-left x y l e f = sym (λ t. better (e t) (f t))
 
-pub better-played : (x y : Option Entry) (l r : Entry) (t : Bool) → x ≡ Some l → y ≡ Some r → t ≡ ahead (r .slot) (r .moment) (l .slot) (l .moment) → cond t (Some r) (Some l) ≡ better x y
+pub better-played : (x y : Option Entry) (l r : Entry) (t : Bool) → x ≡ Some l → y ≡ Some r → t ≡ in-order (r .slot) (r .moment) (l .slot) (l .moment) → cond t (Some r) (Some l) ≡ better x y
 unfolding better
-better-played x y l r t e f g = ap (λ v. cond v (Some r) (Some l)) g ∙ sym (λ i. better (e i) (f i))
+better-played x y l r t e f g = ap (λ v. cond v (Some r) (Some l)) (g ∙ ahead-is (r .slot) (l .slot) (r .moment) (l .moment)) ∙ sym (λ i. better (e i) (f i))
 
 -- one turn of the replay, with the two nodes as they were read
 pub replayed : (ns : List (Option Entry)) (j : ℕ) (x y v : Option Entry) → length ns ≡ 256 → 0 < j → j < 128 → x ≡ getD ns (2 * j) x → y ≡ getD ns (2 * j + 1) y → v ≡ better x y → MatchedBut ns j → MatchedBut (set ns j v) (j / 2)

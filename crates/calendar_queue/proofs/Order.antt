@@ -14,7 +14,16 @@ use Rattle.rules.proofs.Stamped.{asym}
 use Rattle.times.specs.declared.moment.Moment.{Moment}
 use Rattle.times.specs.Of.{moment-of}
 use Rattle.queues.proofs.Firsts.{not-earlier-chain, earlier-apart, not-earlier-test}
-use Rattle.calendar_queue.specs.Entries.{bucket, ahead, leads, lies}
+use Rattle.calendar_queue.specs.Entries.{bucket-number, bucket, in-order, ahead, leads, lies}
+
+-- what is kept shut
+pub bucket-is : (m : Moment) → bucket-number m ≡ bucket m
+unfolding bucket
+bucket-is m = refl
+
+pub ahead-is : (i j : ℕ) (m k : Moment) → in-order i m j k ≡ ahead i m j k
+unfolding ahead
+ahead-is i j m k = refl
 
 -- the code's moments, which have proper times
 abbrev pub sooner : Moment → Moment → Bool

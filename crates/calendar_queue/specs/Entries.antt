@@ -10,13 +10,21 @@ use Rattle.times.specs.declared.moment.Moment.{Moment}
 use Rattle.times.specs.Of.{moment-of}
 
 -- the bucket of a moment: the remainder of its whole tick
+abbrev pub bucket-number : Moment → ℕ
+bucket-number m = whole (moment-of m .time) % 128
+
+-- the same, kept shut
 unfoldable pub bucket : Moment → ℕ
-bucket m = whole (moment-of m .time) % 128
+bucket m = bucket-number m
 
 -- slot i with moment m comes before slot j with moment k: by moment, then by slot
-unfoldable pub ahead : ℕ → Moment → ℕ → Moment → Bool
-ahead i m j k =
+abbrev pub in-order : ℕ → Moment → ℕ → Moment → Bool
+in-order i m j k =
     is-earlier (moment-of m) (moment-of k) || (not (is-earlier (moment-of k) (moment-of m)) && ltb i j)
+
+-- the same, kept shut
+unfoldable pub ahead : ℕ → Moment → ℕ → Moment → Bool
+ahead i m j k = in-order i m j k
 
 -- the same of slots that may be empty, which come before nothing and after nothing
 unfoldable pub leads : ℕ → Option Moment → ℕ → Option Moment → Bool

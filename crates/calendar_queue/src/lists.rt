@@ -19,7 +19,7 @@ const NO_SLOT: u16 = 12480;
 
 /// The moment of each slot or none, and for each place the slot that comes next in its bucket, or a number above the slots where there is none.
 #[derive(Drop)]
-pub struct Lists {
+pub(crate) struct Lists {
     moments: [Option<Moment>; SLOTS],
     next: [u16; PLACES],
     ghost held: { length moments ≡ 12352 },

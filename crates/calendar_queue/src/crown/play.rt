@@ -40,14 +40,14 @@ fn replay(nodes: &mut [Option<Entry>], leaf: usize)
 
 impl Crown {
     /// No entries.
-    pub fn new() -> Crown
+    pub(crate) fn new() -> Crown
         ensures { λ r. ⌜ ((k : ℕ) → node (r .nodes) k ≡ None) ⌝ }
     {
         Crown { nodes: [None; 256] }
     }
 
     /// Sets a bucket's first entry.
-    pub fn set(&mut self, number: u16, found: Option<Entry>)
+    pub(crate) fn set(&mut self, number: u16, found: Option<Entry>)
         requires { ⌜ number < 128 ⌝ }
         ensures { λ _. ⌜ ((b : ℕ) → b < 128 → node (now (self .exit) .nodes) (128 + b) ≡ cond (eqb b number) found (node (now (self .entry) .nodes) (128 + b))) ⌝ }
     {
@@ -57,7 +57,7 @@ impl Crown {
     }
 
     /// The best entry of all, or none.
-    pub fn top(&self) -> Option<Entry>
+    pub(crate) fn top(&self) -> Option<Entry>
         ensures { λ r. ⌜ r ≡ node (now (self .entry) .nodes) 1 ⌝ }
     {
         self.nodes[1]

@@ -16,7 +16,7 @@ use times::Moment;
 
 impl Lists {
     /// Empty buckets.
-    pub fn new() -> Lists
+    pub(crate) fn new() -> Lists
         ensures moments { λ r. ⌜ ((k : ℕ) → table (r .moments) k ≡ None) ⌝ }
         ensures heads { λ r. ⌜ ((b : ℕ) → b < 128 → head-of (r .moments) (r .next) b ≡ None) ⌝ }
     {
@@ -27,7 +27,7 @@ impl Lists {
     }
 
     /// Gives an empty slot its moment, and links it into its bucket.
-    pub fn link(&mut self, slot: u16, moment: Moment)
+    pub(crate) fn link(&mut self, slot: u16, moment: Moment)
         requires inside { ⌜ slot < 12352 ⌝ }
         requires empty { ⌜ table (now self .moments) slot ≡ None ⌝ }
         ensures moments { λ _. ⌜ now (self .exit) .moments ≡ set (now (self .entry) .moments) slot (Some moment) ⌝ }
@@ -40,7 +40,7 @@ impl Lists {
     }
 
     /// Empties a slot that holds a moment, and takes it out of its bucket.
-    pub fn unlink(&mut self, slot: u16, moment: Moment)
+    pub(crate) fn unlink(&mut self, slot: u16, moment: Moment)
         requires inside { ⌜ slot < 12352 ⌝ }
         requires full { ⌜ table (now self .moments) slot ≡ Some moment ⌝ }
         ensures moments { λ _. ⌜ now (self .exit) .moments ≡ set (now (self .entry) .moments) slot None ⌝ }
@@ -52,7 +52,7 @@ impl Lists {
     }
 
     /// The first entry of a bucket, or none.
-    pub fn head(&self, number: u16) -> Option<Entry>
+    pub(crate) fn head(&self, number: u16) -> Option<Entry>
         requires { ⌜ number < 128 ⌝ }
         ensures { λ r. ⌜ r ≡ head-of (now (self .entry) .moments) (now (self .entry) .next) number ⌝ }
     {

@@ -13,7 +13,7 @@ use times::Moment;
 
 impl Lists {
     /// The moment of a slot, or none.
-    pub fn moment(&self, slot: u16) -> Option<Moment>
+    pub(crate) fn moment(&self, slot: u16) -> Option<Moment>
         requires { ⌜ slot < 12352 ⌝ }
         ensures { λ r. ⌜ r ≡ table (now (self .entry) .moments) slot ⌝ }
     {

@@ -1,18 +1,19 @@
 use mathlib.Core.Path.{sym, _∙_}
 use native.Mathlib.Omega.{arith}
 use Rattle.calendar_queue.specs.Entries.{bucket}
+use Rattle.calendar_queue.proofs.Order.{bucket-is}
 use Rattle.calendar_queue.proofs.Walks.{bucket-below}
 use Rattle.calendar_queue.proofs.Bests.{agree-known, agree-after, set-none, kept-removed}
 use Rattle.calendar_queue.proofs.calendar.CalendarQueue.empty.Needs as need
 
 pub refresh-requires : need.refresh-requires
-refresh-requires c κs = let l = bucket-below (c .in-Some .moment) in omega (arith, c .bucket-of .ensures)
+refresh-requires c κs = let l = bucket-below (c .in-Some .moment) in omega (arith, c .bucket-of .ensures ∙ bucket-is (c .in-Some .moment))
 
 pub ghost-self : need.ghost-self
 ghost-self c =
     let q = c .args .self .now in
     let l = c .unlink .last .self in (
-      ∣ agree-after (q .lists .moments) (l .moments) (q .lists .next) (l .next) (q .crown .nodes) (c .refresh .last .crown .nodes) (c .bucket-of .result) (bucket (c .in-Some .moment)) (c .bucket-of .ensures) (agree-known (q .lists .moments) (q .lists .next) (q .crown .nodes) (q .agree)) (c .unlink .ensures .others) (c .refresh .ensures) ∣₁,
+      ∣ agree-after (q .lists .moments) (l .moments) (q .lists .next) (l .next) (q .crown .nodes) (c .refresh .last .crown .nodes) (c .bucket-of .result) (bucket (c .in-Some .moment)) (c .bucket-of .ensures ∙ bucket-is (c .in-Some .moment)) (agree-known (q .lists .moments) (q .lists .next) (q .crown .nodes) (q .agree)) (c .unlink .ensures .others) (c .refresh .ensures) ∣₁,
       tt,
     )
 

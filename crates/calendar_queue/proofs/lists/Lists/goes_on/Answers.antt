@@ -4,7 +4,7 @@ use Prim.Native.Nat.{ℕ}
 use Rattle.std.specs.declared.option.Option.the-variants.{Some}
 use Rattle.calendar_queue.specs.Entries.{leads}
 use Rattle.calendar_queue.specs.Links.{table, links}
-use Rattle.calendar_queue.proofs.Order.{leads-empty, leads-both}
+use Rattle.calendar_queue.proofs.Order.{ahead-is, leads-empty, leads-both}
 use Rattle.calendar_queue.proofs.Walks.{past-leads}
 use Rattle.calendar_queue.proofs.lists.Lists.goes_on.Needs as need
 
@@ -24,6 +24,7 @@ returns-in-Some c =
     (λ (k : ℕ). c .before-in-Some .result ≡ leads (links (s .next) k) (table (s .moments) (links (s .next) k)) (c .args .wanted .slot) (Some (c .args .wanted .moment)))
     (c .from .ensures)
     (c .before-in-Some .ensures
+    ∙ ahead-is (links (s .next) (c .from .result)) (c .args .wanted .slot) (c .in-Some .moment) (c .args .wanted .moment)
     ∙ sym (leads-both _ _ (table (s .moments) (links (s .next) (c .from .result))) (Some (c .args .wanted .moment)) (c .in-Some .moment) (c .args .wanted .moment) (sym (c .in-Some .ensures tt)) refl))
 
 pub returns-in-None : need.returns-in-None

@@ -1,20 +1,21 @@
-use mathlib.Core.Path.{_≡_, sym, subst}
+use mathlib.Core.Path.{_≡_, sym, subst, _∙_}
 use mathlib.Core.Bool.{true}
 use Prim.Native.Nat.{ℕ, _+_, _<_}
 use native.Mathlib.Omega.{arith}
 use Rattle.calendar_queue.specs.Entries.{bucket}
 use Rattle.calendar_queue.specs.Links.{table, links, stands}
+use Rattle.calendar_queue.proofs.Order.{bucket-is}
 use Rattle.calendar_queue.proofs.Places.{begins, opens-start, stands-below}
 use Rattle.calendar_queue.proofs.Walks.{bucket-below, linked-known, table-bounded, Step, step}
 use Rattle.calendar_queue.proofs.lists.Lists.seek.Needs as need
 
 pub add-place : need.add-place
-add-place c = let l = bucket-below (c .args .wanted .moment) in omega (arith, c .bucket-of-place .ensures)
+add-place c = let l = bucket-below (c .args .wanted .moment) in omega (arith, c .bucket-of-place .ensures ∙ bucket-is (c .args .wanted .moment))
 
 pub loop-wanted-holds : need.loop-wanted-holds
 loop-wanted-holds c =
     let t = table (c .args .self .now .moments) in (
-      subst (λ (k : ℕ). stands t (12352 + k) (bucket (c .args .wanted .moment)) ≡ true) (sym (c .bucket-of-place .ensures)) (begins t (bucket (c .args .wanted .moment))),
+      subst (λ (k : ℕ). stands t (12352 + k) (bucket (c .args .wanted .moment)) ≡ true) (sym (c .bucket-of-place .ensures ∙ bucket-is (c .args .wanted .moment))) (begins t (bucket (c .args .wanted .moment))),
       opens-start t _ _ _ (omega arith),
     )
 
