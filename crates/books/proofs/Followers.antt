@@ -1,20 +1,20 @@
 -- Changes and followers, on every book.
-use mathlib.Core.Path.{_≡_, refl, sym, ap, ap₂, _∙_, subst}
+use mathlib.Core.Path.{_≡_, refl, sym, ap, ap₂, _∙_}
 use mathlib.Core.Bool.{Bool, true, false, cond, _||_}
 use mathlib.Core.List.{[]}
-use mathlib.Core.Logic.{_⊎_, inl, inr, ⊎-elim}
+use mathlib.Core.Logic.{_⊎_, inl, inr}
 use Prim.Native.Nat.{ℕ, zero, suc}
-use native.Mathlib.Omega.{arith}
 use lib.Dec.{eqb}
 use borrow.Author.Tests.{eq-eqb, ne-eqb}
-use Rattle.std.proofs.shelf.Tests.{cases-bool, eqb-true, or-parts, or-left, both-ways, true≢false}
+use Rattle.std.proofs.shelf.Tests.{cases-bool, eqb-true, or-parts, or-left, both-ways}
 use Rattle.std.specs.declared.option.Option.{Option}
 use Rattle.std.specs.declared.option.Option.the-variants.{Some, None}
 use Rattle.rules.specs.Basics.{put}
-use Rattle.rules.specs.Paths.{Path, sum, Kept}
-use Rattle.rules.specs.Plans.{Plan, path-of}
-use Rattle.rules.specs.Books.{Book, BookChange, file, ride, Lawful, changed, changed-unless, book-refusal, path, path-at, carried, filed, ridden, follows, follows-at, in-seat}
+use Rattle.rules.specs.Paths.{sum, Kept}
+use Rattle.rules.specs.Plans.{path-of}
+use Rattle.rules.specs.Books.{Book, BookChange, file, ride, Lawful, changed, changed-unless, book-refusal, path, path-at, carried, ridden, follows-at, in-seat}
 use Rattle.plans.proofs.Straight.{line-holds}
+use Rattle.books.proofs.Owns.{frames-stay}
 use Rattle.books.specs.Laws.{Lines-hold, Others-stay, Followers-stay, craft-of}
 
 pub lawful-kept : (b : Book) → Lawful b → (c : ℕ) → Kept (b .scale) (path b c)
@@ -29,7 +29,7 @@ self-follows b zero c = eq-eqb c c refl
 self-follows b (suc j) c = or-left (follows-at b j c c) _ (self-follows b j c)
 
 -- what is put at c is seen nowhere else
-put-other : {A : Type 0} (f : ℕ → A) (c d : ℕ) (v : A) → ¬ (d ≡ c) → put f c v d ≡ f d
+pub put-other : {A : Type 0} (f : ℕ → A) (c d : ℕ) (v : A) → ¬ (d ≡ c) → put f c v d ≡ f d
 put-other f c d v n = ap (λ (b : Bool). cond b v (f d)) (ne-eqb d c n)
 
 -- one seat of craft c is set: the seats of every other craft are as they were
@@ -84,18 +84,10 @@ beside x b = by x (book-refusal x b)
     by (file c p) None = record { owns = λ d n. put-other (b .own) c d (path-of p) n; seats = λ i d n. refl }
     by (ride c j k) None = record { owns = λ d n. refl; seats = λ i d n. ridden-other b j c k i d n }
 
-levels-same : (x : BookChange) (b : Book) → changed x b .levels ≡ b .levels
-levels-same x b = by x (book-refusal x b)
-  where
-    by : (x : BookChange) (o : Option ℕ) → changed-unless o x b .levels ≡ b .levels
-    by x (Some n) = refl
-    by (file c p) None = refl
-    by (ride c j k) None = refl
-
 pub others-stay : Others-stay
 others-stay x b d h =
-    ap (λ (l : ℕ). path-at (changed x b) l d) (levels-same x b) ∙ path-same (craft-of x) b (changed x b) (beside x b) (b .levels) d h
+    ap (λ (l : ℕ). path-at (changed x b) l d) (frames-stay x b .levels) ∙ path-same (craft-of x) b (changed x b) (beside x b) (b .levels) d h
 
 pub followers-stay : Followers-stay
 followers-stay x b d =
-    ap (λ (l : ℕ). follows-at (changed x b) l (craft-of x) d) (levels-same x b) ∙ follows-same (craft-of x) b (changed x b) (beside x b) (b .levels) d
+    ap (λ (l : ℕ). follows-at (changed x b) l (craft-of x) d) (frames-stay x b .levels) ∙ follows-same (craft-of x) b (changed x b) (beside x b) (b .levels) d

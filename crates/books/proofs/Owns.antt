@@ -1,19 +1,19 @@
 -- A book whose own paths are right is lawful, and stays so under every change.
-use mathlib.Core.Path.{_≡_, refl, sym, ap, ap₂, _∙_, subst}
+use mathlib.Core.Path.{_≡_, refl, sym, subst}
 use mathlib.Core.Bool.{Bool, true, false, cond, not}
 use mathlib.Core.List.{List, [], _∷_}
-use Prim.Native.Nat.{ℕ, zero, suc, _+_, _*_, _^_, _≤_, _<_}
+use Prim.Native.Nat.{ℕ, zero, suc, _+_}
 use native.Mathlib.Omega.{arith}
 use lib.Dec.{eqb, ltb}
 use Rattle.std.specs.declared.option.Option.{Option}
 use Rattle.std.specs.declared.option.Option.the-variants.{Some, None}
 use Rattle.rules.specs.Basics.{put, first-fit}
-use Rattle.rules.specs.Paths.{Path, Kept, sum}
-use Rattle.rules.specs.Plans.{Plan, path-of, plan-right}
-use Rattle.rules.specs.Books.{Book, BookChange, file, ride, Lawful, changed, changed-by, changed-unless, carried-out, book-refusal, out-of-range, path, path-at, carried, filed}
+use Rattle.rules.specs.Paths.{Path, Kept}
+use Rattle.rules.specs.Plans.{path-of, plan-right}
+use Rattle.rules.specs.Books.{Book, BookChange, file, ride, changed, changed-by, changed-unless, book-refusal, out-of-range, path, path-at, carried}
 use Rattle.plans.proofs.Flown.{plan-kept}
 use Rattle.books.specs.Right.{Right, OwnRight}
-use Rattle.books.specs.Laws.{Own-lawful, Frame, Frames-stay}
+use Rattle.books.specs.Laws.{Own-lawful, Frames-stay}
 use Rattle.books.proofs.Sums.{right-sum, right-fewer, right-kept, kept-right}
 
 -- with k levels still to come, the path at level j leaves room for k doublings

@@ -1,6 +1,6 @@
 -- Books of routes with no levels.
-use mathlib.Core.Path.{_≡_, refl, sym, ap, _∙_, subst, fun-ext}
-use mathlib.Core.Bool.{Bool, true, false, cond}
+use mathlib.Core.Path.{_≡_, refl, ap, _∙_, fun-ext}
+use mathlib.Core.Bool.{true, false, cond}
 use mathlib.Core.List.{List}
 use Prim.Native.Nat.{ℕ, zero, suc, _<_}
 use native.Mathlib.Omega.{arith}
@@ -10,7 +10,7 @@ use borrow.Author.Needs.{needs}
 use Rattle.std.specs.declared.option.Option.{Option}
 use Rattle.std.specs.declared.option.Option.the-variants.{Some, None}
 use Rattle.rules.specs.Basics.{put}
-use Rattle.rules.specs.Paths.{Path, Kept, standing}
+use Rattle.rules.specs.Paths.{Kept, standing}
 use Rattle.rules.specs.Books.{Lawful}
 use Rattle.plans.specs.declared.route.Route.{Route}
 use Rattle.plans.proofs.Flown.{standing-kept}

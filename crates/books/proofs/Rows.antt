@@ -1,19 +1,16 @@
 -- Which refusal fits, and what a change then comes to.
-use mathlib.Core.Path.{_≡_, refl, sym, ap, _∙_, subst}
-use mathlib.Core.Bool.{Bool, true, false, cond, not, _||_}
-use mathlib.Core.List.{[], _∷_}
+use mathlib.Core.Path.{_≡_, refl, sym, ap}
+use mathlib.Core.Bool.{Bool, true, false, cond}
 use Prim.Native.Nat.{ℕ, _≤_, _<_}
 use native.Mathlib.Omega.{arith}
-use lib.Dec.{ltb, leb}
-use Rattle.std.proofs.shelf.Tests.{cases-bool, lt-leb, le-leb, lt-ltb, le-ltb}
+use Rattle.std.proofs.shelf.Tests.{lt-leb, lt-ltb, le-ltb}
 use Rattle.std.specs.declared.option.Option.{Option}
 use Rattle.std.specs.declared.option.Option.the-variants.{Some, None}
 use Rattle.std.specs.declared.result.Result.{Result}
 use Rattle.std.specs.declared.result.Result.the-variants.{Ok, Err}
-use Rattle.rules.specs.Basics.{first-fit}
 use Rattle.rules.specs.Paths.{Axis, Line, Path}
 use Rattle.rules.specs.Plans.{Plan, path-of, plan-right}
-use Rattle.rules.specs.Books.{Book, BookChange, file, ride, changed, changed-unless, carried-out, book-refusal, book-rows, out-of-range, carrier-out, carrier-is}
+use Rattle.rules.specs.Books.{Book, BookChange, file, changed, changed-unless, carried-out, book-refusal, out-of-range}
 use Rattle.plans.specs.Routes.{route-made}
 
 pub refused-same : (x : BookChange) (b : Book) (n : ℕ) → book-refusal x b ≡ Some n → b ≡ changed x b

@@ -3,17 +3,17 @@ use mathlib.Core.Path.{_≡_, refl, sym, ap, ap₂, _∙_, subst}
 use mathlib.Core.Bool.{Bool, true, false, cond}
 use mathlib.Core.List.{List, [], _∷_, _++_, Memᴰ·append-left, Memᴰ·append-right, List·Memᴰ·append-cases}
 use mathlib.Core.Logic.{⊎-elim}
-use Prim.Native.Nat.{ℕ, zero, suc, _+_, _*_, _^_, _≤_, _<_, min}
+use Prim.Native.Nat.{ℕ, suc, _+_, _*_, _^_, _≤_}
 use native.Mathlib.Omega.{arith}
 use native.Mathlib.Nat.{mul-le-mul-right, mul-le-mul, pow-succ'}
-use lib.IntN.{ℤ, pos, natAbs, _+ℤ_, _-ℤ_, _*ℤ_}
+use lib.IntN.{ℤ, natAbs, _+ℤ_}
 use borrow.Author.Differences.{ints}
 use Rattle.std.specs.declared.option.Option.{Option}
 use Rattle.std.specs.declared.option.Option.the-variants.{Some, None}
 use Rattle.rules.specs.Basics.{_∈_}
-use Rattle.rules.specs.Fractions.{Fraction, tick, is-before, whole}
-use Rattle.rules.specs.Paths.{Axis, Path, Line, Kept, sum, speed-at, line-at, leg, first-after, min-with}
-use Rattle.plans.specs.Lines.{line-of, plus}
+use Rattle.rules.specs.Fractions.{Fraction, tick, is-before}
+use Rattle.rules.specs.Paths.{Axis, Path, Kept, sum, speed-at, line-at, first-after, min-with}
+use Rattle.plans.specs.Lines.{plus}
 use Rattle.plans.proofs.Flown.{of-places, line-plus}
 use Rattle.books.specs.Breaks.{earlier}
 use Rattle.books.specs.Right.{Right}

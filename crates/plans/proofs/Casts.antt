@@ -1,11 +1,10 @@
 -- Lines in 32 bits.
 use mathlib.Core.Path.{_≡_, refl, ap, ap₂, sym, _∙_, subst}
-use mathlib.Core.Bool.{Bool, true, false, cond}
+use mathlib.Core.Bool.{true}
 use mathlib.Core.List.{List, [], _∷_}
 use Prim.Native.Nat.{ℕ, zero, suc, _+_, _-_, _*_, _^_, _≤_, _<_}
 use native.Mathlib.Omega.{arith}
 use native.Mathlib.Decide.{decLt}
-use lib.Dec.{ltb}
 use lib.IntN.{ℤ, pos, negℤ, natAbs, _+ℤ_, _-ℤ_, _*ℤ_}
 use lib.ListN.{length, getD, take, drop}
 use mir.Syntax.{w32}
@@ -14,11 +13,11 @@ use borrow.Author.Differences.{ints}
 use Rattle.std.proofs.shelf.Signed.{toZ-ofZ}
 use Rattle.std.proofs.shelf.Tests.{lt-ltb, le-ltb}
 use Rattle.rules.specs.Paths.{Axis}
-use Rattle.rules.specs.Plans.{Leg as FlightLeg, until, legs-right}
+use Rattle.rules.specs.Plans.{until, legs-right}
 use Rattle.plans.specs.declared.plan.Leg.{Leg}
 use Rattle.plans.specs.Of.{leg-of, legs-of, blank}
 use Rattle.plans.specs.Lines.{plus, leg-line, legs-line}
-use Rattle.plans.proofs.Sizes.{times-within, sum-within}
+use Rattle.plans.proofs.Sizes.{times-within, neg-within, pair-≡}
 use Rattle.plans.proofs.Flown.{LegRight, first-right, rest-right, until-end}
 use Rattle.plans.proofs.Tables.{from-leg}
 
@@ -53,19 +52,13 @@ module _ (s f v : ℤ) (n : ℕ) (es : s ≡ v) (ef : f ≡ pos n) (hv : natAbs 
       zero-minus z = omega (arith, ints)
 
   minus-small : natAbs (negℤ (v *ℤ pos n)) ≤ 50000000
-  minus-small = let h = way-small in flip (v *ℤ pos n) h
-    where
-      flip : (z : ℤ) → natAbs z ≤ 50000000 → natAbs (negℤ z) ≤ 50000000
-      flip z h = omega (arith, ints)
+  minus-small = neg-within (v *ℤ pos n) 50000000 way-small
 
   pub minus-fits : SFits w32 (pos 0 -ℤ back (back s *ℤ back f))
   minus-fits = subst (SFits w32) (sym minus-inner) (small-fits (negℤ (v *ℤ pos n)) 50000000 minus-small (omega arith))
 
   pub minus-is : back (pos 0 -ℤ back (back s *ℤ back f)) ≡ negℤ (v *ℤ pos n)
   minus-is = ap back minus-inner ∙ back-is (negℤ (v *ℤ pos n)) 50000000 minus-small (omega arith)
-
-pub pair-≡ : {x y z w : ℤ} → x ≡ z → y ≡ w → _≡_ {A = ℤ × ℤ} (x, y) (z, w)
-pair-≡ e f = λ i. (e i, f i)
 
 pub line-during : (v : ℤ) (f u i : ℕ) → f ≤ i → i < u → leg-line v f u i ≡ (negℤ (v *ℤ pos f), v)
 line-during v f u i h k = rw (le-ltb i f h, lt-ltb i u k) refl
@@ -81,12 +74,9 @@ pub record Part (l : ℤ × ℤ) : Type 0 where
 pub part-small : (v : ℤ) (f u i : ℕ) → natAbs v ≤ 1000 → f < u → u ≤ 50000 → Part (leg-line v f u i)
 part-small v f u i hv o l = go (decLt i f) (decLt i u)
   where
-    flip : (z : ℤ) → natAbs z ≤ 50000000 → natAbs (negℤ z) ≤ 50000000
-    flip z h = omega (arith, ints)
-
     go : Dec (i < f) → Dec (i < u) → Part (leg-line v f u i)
     go (yes h) k = rw (lt-ltb i f h) (record { base = omega arith; slope = omega arith })
-    go (no h) (yes k) = rw (le-ltb i f (omega arith), lt-ltb i u k) (record { base = flip (v *ℤ pos f) (times-within v f 1000 50000 hv (omega arith)); slope = hv })
+    go (no h) (yes k) = rw (le-ltb i f (omega arith), lt-ltb i u k) (record { base = neg-within (v *ℤ pos f) 50000000 (times-within v f 1000 50000 hv (omega arith)); slope = hv })
     go (no h) (no k) = rw (le-ltb i f (omega arith), le-ltb i u (omega arith)) (record { base = times-within v (u - f) 1000 50000 hv (omega arith); slope = omega arith })
 
 -- what is left of right legs is right

@@ -1,9 +1,9 @@
 -- The path of a plan that keeps its rules.
-use mathlib.Core.Path.{_≡_, refl, ap, ap₂, sym, _∙_, subst, fun-ext}
-use mathlib.Core.Bool.{Bool, true, false, cond, _&&_}
+use mathlib.Core.Path.{_≡_, refl, ap, ap₂, sym, _∙_, subst}
+use mathlib.Core.Bool.{Bool, true, cond}
 use mathlib.Core.List.{List, [], _∷_, _++_, map, List·Memᴰ, List·Memᴰ·head, List·Memᴰ·tail, List·Memᴰ·not-nil, List·Memᴰ·cases-cons}
-use mathlib.Core.Logic.{_⊎_, inl, inr, ⊎-elim}
-use Prim.Native.Nat.{ℕ, zero, suc, _+_, _-_, _*_, _≤_, _<_, min}
+use mathlib.Core.Logic.{_⊎_, ⊎-elim}
+use Prim.Native.Nat.{ℕ, suc, _+_, _-_, _*_, _≤_, _<_, min}
 use native.Mathlib.Omega.{arith}
 use native.Mathlib.Decide.{decLt}
 use lib.Dec.{ltb, leb}
@@ -14,13 +14,13 @@ use Rattle.std.specs.declared.option.Option.{Option}
 use Rattle.std.specs.declared.option.Option.the-variants.{Some, None}
 use Rattle.rules.specs.Basics.{_∈_}
 use Rattle.rules.specs.Fractions.{Fraction, Proper, tick, whole, is-before}
-use Rattle.rules.specs.Paths.{Axis, X, Y, Z, Line, Path, Kept, speed-at, line-at, standing, first-after, min-with, on-every-axis}
+use Rattle.rules.specs.Paths.{Axis, X, Y, Z, Line, Kept, speed-at, line-at, first-after, min-with, on-every-axis}
 use Rattle.rules.specs.Plans.{Leg, Plan, until, gone, path-of, within, legs-right, plan-right}
-use Rattle.rules.proofs.Ring.{distr, neg-times}
+use Rattle.rules.proofs.Ring.{distr}
 use Rattle.plans.specs.Lines.{line-of, plus, leg-line, legs-line, first-past}
 use Rattle.plans.specs.Laws.{Plans-kept, Standing-kept}
-use Rattle.plans.proofs.Sizes.{times-within, sum-within, diff-within}
-use Rattle.plans.proofs.Straight.{line-≡, after-whole, whole-after}
+use Rattle.plans.proofs.Sizes.{times-within, sum-within, diff-within, pair-≡}
+use Rattle.plans.proofs.Straight.{after-whole, whole-after}
 
 -- what the test of one leg says
 pub record LegRight (l : Leg) (u : ℕ) : Type 0 where
@@ -96,9 +96,6 @@ gone-stays (l ∷ ls) end a i j r h k =
 abbrev pub of-places : (ℕ → ℤ) → ℕ → ℤ × ℤ
 of-places p i = (p i -ℤ ((p (suc i) -ℤ p i) *ℤ pos i), p (suc i) -ℤ p i)
 
-pair-≡ : (x y z w : ℤ) → x ≡ z → y ≡ w → _≡_ {A = ℤ × ℤ} (x, y) (z, w)
-pair-≡ x y z w e f = λ i. (e i, f i)
-
 plus-slope : (a b c d : ℤ) → (a +ℤ b) -ℤ (c +ℤ d) ≡ (a -ℤ c) +ℤ (b -ℤ d)
 plus-slope a b c d = omega (arith, ints)
 
@@ -107,7 +104,7 @@ plus-base a b v w i = rw distr (omega (arith, ints))
 
 pub line-plus : (p q : ℕ → ℤ) (i : ℕ) → of-places (λ j. p j +ℤ q j) i ≡ plus (of-places p i) (of-places q i)
 line-plus p q i =
-    pair-≡ _ _ _ _
+    pair-≡
     (ap (λ (v : ℤ). (p i +ℤ q i) -ℤ (v *ℤ pos i)) (plus-slope (p (suc i)) (q (suc i)) (p i) (q i)) ∙ plus-base (p i) (q i) (p (suc i) -ℤ p i) (q (suc i) -ℤ q i) i)
     (plus-slope (p (suc i)) (q (suc i)) (p i) (q i))
 
@@ -115,7 +112,7 @@ line-plus p q i =
 line-by : (p : ℕ → ℤ) (i : ℕ) (a v : ℤ) → p i ≡ a +ℤ (v *ℤ pos i) → p (suc i) ≡ a +ℤ (v *ℤ pos (suc i)) → of-places p i ≡ (a, v)
 line-by p i a v e f =
     let s : p (suc i) -ℤ p i ≡ v = slope (p i) (p (suc i)) e f in
-    pair-≡ _ _ _ _ (ap (λ (w : ℤ). p i -ℤ (w *ℤ pos i)) s ∙ base (p i) e) s
+    pair-≡ (ap (λ (w : ℤ). p i -ℤ (w *ℤ pos i)) s ∙ base (p i) e) s
   where
     slope : (x y : ℤ) → x ≡ a +ℤ (v *ℤ pos i) → y ≡ a +ℤ (v *ℤ pos (suc i)) → y -ℤ x ≡ v
     slope x y e f = omega (arith, ints, e, f)

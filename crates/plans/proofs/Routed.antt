@@ -1,14 +1,13 @@
 -- What holds of every route.
-use mathlib.Core.Path.{_≡_, refl, ap, sym, _∙_, subst, fun-ext}
+use mathlib.Core.Path.{_≡_, ap, sym, _∙_, fun-ext}
 use mathlib.Core.Bool.{true}
 use Prim.Native.Nat.{ℕ, _≤_}
 use native.Mathlib.Omega.{arith}
-use lib.IntN.{ℤ, pos, natAbs}
+use lib.IntN.{pos, natAbs}
 use lib.ListN.{length, take}
-use Rattle.std.specs.declared.option.Option.{Option}
 use Rattle.std.specs.declared.option.Option.the-variants.{None}
 use Rattle.rules.specs.Fractions.{Fraction, Proper, whole}
-use Rattle.rules.specs.Paths.{Axis, X, Y, Z, Line, Kept, xyz, line-at, leg, first-after, standing}
+use Rattle.rules.specs.Paths.{Axis, X, Y, Z, Kept, xyz, line-at, leg, standing}
 use Rattle.rules.specs.Plans.{legs-right}
 use Rattle.plans.specs.declared.route.Route.{Route}
 use Rattle.plans.specs.declared.answer.LegAnswer.{LegAnswer}

@@ -24,3 +24,9 @@ sum-within a b m n p q = omega (arith, ints)
 
 pub diff-within : (a b : ℤ) (m n : ℕ) → natAbs a ≤ m → natAbs b ≤ n → natAbs (a -ℤ b) ≤ m + n
 diff-within a b m n p q = omega (arith, ints)
+
+pub neg-within : (z : ℤ) (m : ℕ) → natAbs z ≤ m → natAbs (negℤ z) ≤ m
+neg-within z m h = omega (arith, ints)
+
+pub pair-≡ : {x y z w : ℤ} → x ≡ z → y ≡ w → _≡_ {A = ℤ × ℤ} (x, y) (z, w)
+pair-≡ e f = λ i. (e i, f i)

@@ -1,19 +1,18 @@
 -- A path runs on one line until its next break.
-use mathlib.Core.Path.{_≡_, refl, ap, sym, _∙_, subst}
-use mathlib.Core.List.{List, [], _∷_}
-use Prim.Native.Nat.{ℕ, zero, suc, _+_, _-_, _*_, _/_, _≤_, _<_}
+use mathlib.Core.Path.{_≡_, refl, ap, sym, _∙_}
+use Prim.Native.Nat.{ℕ, zero, suc, _+_, _-_, _*_, _≤_, _<_}
 use native.Mathlib.Omega.{arith}
 use native.Mathlib.Decide.{decLt}
 use native.Mathlib.Nat.{mul-le-mul-right, le-of-mul-le-mul-right, le-div-iff-mul-le, le-antisymm, div-eq-of-eq-mul-left}
-use lib.IntN.{ℤ, pos, _+ℤ_, _-ℤ_, _*ℤ_, negℤ}
+use lib.IntN.{ℤ, pos, _+ℤ_, _-ℤ_, _*ℤ_}
 use borrow.Author.Differences.{ints}
 use Rattle.std.specs.declared.option.Option.{Option}
 use Rattle.std.specs.declared.option.Option.the-variants.{Some, None}
 use Rattle.rules.specs.Basics.{_∈_}
-use Rattle.rules.specs.Fractions.{Fraction, Proper, Before, NotAfter, tick, whole}
+use Rattle.rules.specs.Fractions.{Fraction, Proper, Before, tick, whole}
 use Rattle.rules.specs.Paths.{Axis, Line, Path, leg, value, position, first-after, speed-at, line-at}
 use Rattle.rules.proofs.Ring.{distr, assoc, neg-times}
-use Rattle.plans.specs.Laws.{Turns, NotPast, Line-holds, LeastAfter}
+use Rattle.plans.specs.Laws.{NotPast, Line-holds, LeastAfter}
 use Rattle.plans.proofs.Breaks.{first-after-least}
 
 pub line-≡ : (l k : Line) → l .base ≡ k .base → l .slope ≡ k .slope → l ≡ k

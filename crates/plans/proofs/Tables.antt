@@ -1,12 +1,12 @@
 -- The legs of a plan in its table.
-use mathlib.Core.Path.{_≡_, refl, ap, ap₂, sym, _∙_}
+use mathlib.Core.Path.{_≡_, refl, ap, sym, _∙_}
 use mathlib.Core.Bool.{Bool, true, false, cond, _&&_}
 use mathlib.Core.List.{List, [], _∷_, _++_, map}
 use Prim.Native.Nat.{ℕ, suc, _+_, _≤_, _<_, min}
 use native.Mathlib.Omega.{arith}
 use lib.Dec.{ltb}
-use lib.ListN.{length, getD, set, take, drop, length-take, length-set}
-use Rattle.std.proofs.shelf.Lists.{take-more-set, map-push, take-all, drop-more, drop-all, getD-take, getD-default}
+use lib.ListN.{length, getD, set, take, drop, length-take}
+use Rattle.std.proofs.shelf.Lists.{take-more-set, map-push, take-all, drop-more, drop-all, getD-take}
 use Rattle.std.proofs.shelf.Tests.{lt-ltb, le-ltb}
 use Rattle.rules.specs.Plans.{Leg as FlightLeg, Plan as FlightPlan, until, within, legs-right}
 use Rattle.rules.specs.Paths.{on-every-axis}

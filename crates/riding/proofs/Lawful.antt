@@ -1,21 +1,21 @@
 -- A layer over a lawful book is lawful.
-use mathlib.Core.Path.{_≡_, refl, sym, ap, ap₂, _∙_, subst}
+use mathlib.Core.Path.{_≡_, refl, sym, ap, _∙_, subst}
 use mathlib.Core.Bool.{Bool, true, false, cond}
 use mathlib.Core.List.{List, [], _∷_, _++_}
 use mathlib.Core.Logic.{_⊎_, inl, inr}
-use Prim.Native.Nat.{ℕ, zero, suc, _+_, _*_, _^_, _≤_, _<_}
+use Prim.Native.Nat.{ℕ, _+_, _*_, _^_, _≤_}
 use native.Mathlib.Omega.{arith}
 use native.Mathlib.Nat.{pow-succ'}
 use lib.Dec.{eqb, leb}
 use borrow.Author.Tests.{eq-eqb}
-use Rattle.std.proofs.shelf.Tests.{cases-bool, eqb-true, leb-true, leb-false, both-ways}
+use Rattle.std.proofs.shelf.Tests.{cases-bool, eqb-true, leb-true, both-ways}
 use Rattle.std.specs.declared.option.Option.{Option}
 use Rattle.std.specs.declared.option.Option.the-variants.{Some, None}
-use Rattle.rules.specs.Paths.{Path, Kept, sum}
+use Rattle.rules.specs.Paths.{Path, Kept}
 use Rattle.rules.specs.Books.{Book, BookChange, file, ride, Lawful, changed, changed-by, layered, path, carried}
 use Rattle.books.proofs.Sums.{kept-sum, kept-more}
 use Rattle.books.proofs.Owns.{frames-stay}
-use Rattle.riding.specs.Layer.{added, sat}
+use Rattle.riding.specs.Layer.{sat}
 use Rattle.riding.proofs.Layers.{lay, layered-path, layered-scale, file-layered, ride-layered, seat-layered}
 
 -- changes of a layered book come to other seats of the layer, and changes of the book below

@@ -1,20 +1,21 @@
 -- A layer over a book: its paths, followers, refusals and changes by those of the book below.
-use mathlib.Core.Path.{_≡_, refl, sym, ap, ap₂, _∙_, subst, fun-ext}
+use mathlib.Core.Path.{_≡_, refl, sym, ap, ap₂, _∙_, fun-ext}
 use mathlib.Core.Bool.{Bool, true, false, cond, not, _||_}
-use mathlib.Core.List.{List, [], _∷_}
+use mathlib.Core.List.{[], _∷_}
 use mathlib.Core.Logic.{_⊎_, inl, inr}
 use Prim.Native.Nat.{ℕ, zero, suc, _*_, _≤_, _<_}
 use native.Mathlib.Omega.{arith}
 use native.Mathlib.Decide.{decLt}
 use lib.Dec.{eqb, leb, ltb}
-use borrow.Author.Tests.{eq-eqb, ne-eqb}
-use Rattle.std.proofs.shelf.Tests.{cases-bool, eqb-true, eqb-false, le-leb, lt-leb, leb-true, leb-false, both-ways}
+use borrow.Author.Tests.{eq-eqb}
+use Rattle.std.proofs.shelf.Tests.{cases-bool, eqb-true, le-leb, lt-leb, leb-false}
 use Rattle.std.specs.declared.option.Option.{Option}
 use Rattle.std.specs.declared.option.Option.the-variants.{Some, None}
 use Rattle.rules.specs.Basics.{put, first-fit}
-use Rattle.rules.specs.Paths.{Path, sum}
-use Rattle.rules.specs.Plans.{Plan, path-of, plan-right}
-use Rattle.rules.specs.Books.{Book, BookChange, file, ride, changed, changed-unless, carried-out, book-refusal, layered, path, path-at, carried, follows, follows-at, in-seat, out-of-range, carrier-out, carrier-is, ridden}
+use Rattle.rules.specs.Paths.{Path}
+use Rattle.rules.specs.Plans.{Plan, plan-right}
+use Rattle.rules.specs.Books.{Book, BookChange, file, ride, changed, changed-unless, book-refusal, layered, path, path-at, carried, follows, follows-at, in-seat, out-of-range, carrier-out, carrier-is}
+use Rattle.books.proofs.Followers.{put-other}
 use Rattle.books.proofs.Owns.{frames-stay}
 use Rattle.riding.specs.Layer.{added, seat-refusal, sat-unless, sat}
 
@@ -33,9 +34,6 @@ book-≡ l m n own f g e = λ i. record { own = own; levels = l; seat = e i; lim
 
 put-here : {A : Type 0} (f : ℕ → A) (c : ℕ) (v : A) → put f c v c ≡ v
 put-here f c v = ap (λ (b : Bool). cond b v (f c)) (eq-eqb c c refl)
-
-put-other : {A : Type 0} (f : ℕ → A) (c d : ℕ) (v : A) → ¬ (d ≡ c) → put f c v d ≡ f d
-put-other f c d v n = ap (λ (b : Bool). cond b v (f d)) (ne-eqb d c n)
 
 -- PATHS AND FOLLOWERS
 

@@ -1,21 +1,15 @@
 -- Legs of paths added, and which questions are answered.
-use mathlib.Core.Path.{_≡_, refl, sym, ap, ap₂, _∙_, subst, fun-ext}
-use mathlib.Core.Bool.{Bool, true, false, cond, _||_}
-use mathlib.Core.Logic.{_⊎_, inl, inr}
-use Prim.Native.Nat.{ℕ, zero, suc, _+_, _*_, _^_, _≤_, _<_}
+use mathlib.Core.Path.{_≡_, refl, sym, ap, ap₂, _∙_, subst}
+use mathlib.Core.Bool.{Bool, true, false, cond}
+use Prim.Native.Nat.{ℕ, zero, suc, _+_, _^_, _≤_, _<_}
 use native.Mathlib.Omega.{arith}
 use native.Mathlib.Nat.{pow-succ'}
-use lib.Dec.{leb}
 use lib.IntN.{ℤ, natAbs, _+ℤ_}
-use borrow.Author.Differences.{ints}
-use Rattle.std.proofs.shelf.Tests.{cases-bool, lt-leb}
 use Rattle.std.specs.declared.option.Option.{Option}
-use Rattle.std.specs.declared.option.Option.the-variants.{Some, None}
 use Rattle.std.specs.declared.result.Result.{Result}
 use Rattle.std.specs.declared.result.Result.the-variants.{Ok, Err}
 use Rattle.rules.specs.Fractions.{Fraction, whole}
-use Rattle.rules.specs.Paths.{Axis, X, Y, Z, Line, Path, Kept, sum, leg, line-at, first-after}
-use Rattle.rules.specs.Books.{out-of-range}
+use Rattle.rules.specs.Paths.{Axis, X, Y, Z, Line, Path, Kept, sum, leg, line-at}
 use Rattle.plans.specs.declared.answer.LegAnswer.{LegAnswer}
 use Rattle.plans.specs.Lines.{line-of, plus}
 use Rattle.plans.specs.Routes.{answer-of, leg-asked}

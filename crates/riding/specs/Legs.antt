@@ -1,5 +1,5 @@
 -- Answers to the leg question added.
-use Prim.Native.Nat.{ℕ, _≤_}
+use Prim.Native.Nat.{_≤_}
 use lib.IntN.{ℤ, natAbs}
 use Rattle.plans.specs.declared.answer.LegAnswer.{LegAnswer}
 use Rattle.plans.specs.Lines.{plus}

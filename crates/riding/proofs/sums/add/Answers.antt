@@ -1,7 +1,7 @@
 use mathlib.Core.Path.{_≡_}
 use native.Mathlib.Omega.{arith}
 use borrow.Author.Differences.{ints}
-use Rattle.plans.proofs.Casts.{pair-≡}
+use Rattle.plans.proofs.Sizes.{pair-≡}
 use Rattle.riding.proofs.sums.add.Needs as need
 
 pub returns : need.returns

@@ -1,4 +1,4 @@
-use mathlib.Core.Path.{_≡_, ap, fun-ext}
+use mathlib.Core.Path.{ap, fun-ext}
 use Prim.Native.Nat.{ℕ}
 use Rattle.rules.specs.Paths.{Path}
 use Rattle.books.specs.Plain.{plain-book}

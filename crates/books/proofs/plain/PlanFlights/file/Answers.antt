@@ -1,10 +1,8 @@
-use mathlib.Core.Path.{_≡_, refl, sym, ap, _∙_}
+use mathlib.Core.Path.{refl, sym, ap, _∙_}
 use Prim.Native.Nat.{ℕ}
 use Rattle.rules.specs.Basics.{put}
 use Rattle.rules.specs.Paths.{Path}
-use Rattle.rules.specs.Books.{Book, BookChange}
 use Rattle.plans.specs.Of.{plan-of}
-use Rattle.plans.specs.Routes.{route-path}
 use Rattle.books.specs.Told.{filing}
 use Rattle.books.specs.Routes.{routes-of}
 use Rattle.books.specs.Plain.{plain-book}

@@ -1,7 +1,6 @@
-use mathlib.Core.Path.{_≡_, sym, ap, _∙_}
+use mathlib.Core.Path.{sym, ap, _∙_}
 use mathlib.Core.List.{List}
 use native.Mathlib.Omega.{arith}
-use borrow.Author.Needs.{needs}
 use Rattle.rules.specs.Plans.{legs-right}
 use Rattle.plans.specs.declared.plan.Leg.{Leg}
 use Rattle.plans.specs.Of.{legs-of}

@@ -1,8 +1,6 @@
-use mathlib.Core.Path.{_≡_, sym, ap}
+use mathlib.Core.Path.{sym, ap}
 use mathlib.Core.List.{List}
-use Prim.Native.Nat.{ℕ, _≤_}
 use native.Mathlib.Omega.{arith}
-use lib.ListN.{length}
 use Rattle.rules.specs.Plans.{until}
 use Rattle.plans.specs.declared.plan.Leg.{Leg}
 use Rattle.plans.specs.Of.{legs-of}

@@ -1,10 +1,10 @@
 use mathlib.Core.Path.{_≡_, refl, sym, _∙_}
 use Prim.Native.Nat.{_-_}
 use native.Mathlib.Omega.{arith}
-use lib.IntN.{pos}
 use mir.Syntax.{w16}
 use Rattle.std.proofs.shelf.Signed.{toZ-ofZ}
-use Rattle.plans.proofs.Casts.{way-fits, way-is, minus-fits, minus-is, back-is, pair-≡, line-during, line-after}
+use Rattle.plans.proofs.Sizes.{pair-≡}
+use Rattle.plans.proofs.Casts.{way-fits, way-is, minus-fits, minus-is, back-is, line-during, line-after}
 use Rattle.plans.proofs.route.lines.part_of.Needs as need
 
 pub mul-result : need.mul-result

@@ -1,5 +1,5 @@
-use mathlib.Core.Path.{_≡_, sym, ap, _∙_}
-use Rattle.rules.specs.Books.{Book, layered}
+use mathlib.Core.Path.{sym, ap, _∙_}
+use Rattle.rules.specs.Books.{layered}
 use Rattle.plans.specs.Of.{plan-of}
 use Rattle.riding.specs.Seats.{seats-of}
 use Rattle.riding.proofs.Layers.{file-refusal, file-layered}

@@ -1,4 +1,4 @@
-use mathlib.Core.Path.{_≡_, _∙_}
+use mathlib.Core.Path.{_∙_}
 use lib.ListN.{length-set}
 use Rattle.riding.proofs.Seating.{seated-set}
 use Rattle.riding.proofs.seats.Seats.sit.Needs as need
