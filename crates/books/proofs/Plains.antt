@@ -27,9 +27,10 @@ own-kept (Some r) = route-kept r
 
 pub plain-lawful : (r : Routes) (n : ℕ) → Lawful (plain-book (routes-of r) n)
 plain-lawful r n = own-lawful (plain-book (routes-of r) n) (record {
-    own = λ c. kept-right 0 1 (routes-of r c) (omega arith) (own-kept (getD (r .table) c None));
-    low = omega arith;
-    high = omega arith })
+  own = λ c. kept-right 0 1 (routes-of r c) (omega arith) (own-kept (getD (r .table) c None));
+  low = omega arith;
+  high = omega arith;
+})
 
 table-set : {A : Type 0} (xs : List A) (i : ℕ) (v d : A) → i < length xs → (λ k. getD (set xs i v) k d) ≡ put (λ k. getD xs k d) i v
 table-set xs i v d h = search needs

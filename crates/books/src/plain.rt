@@ -2,7 +2,6 @@
 ghost use mathlib.Core.Path.{_≡_};
 ghost use Rattle.rules.specs.Books.{empty-book};
 ghost use Rattle.books.specs.Plain.{plan-book-of};
-
 use crate::book::FlightBook;
 use crate::routes::Routes;
 use plans::LegAnswer;
@@ -23,14 +22,20 @@ impl PlanBook {
     pub fn single_leg() -> PlanBook
         ensures { λ r. ⌜ plan-book-of r ≡ empty-book 1 ⌝ }
     {
-        PlanBook { routes: Routes::new(), limit: 1 }
+        PlanBook {
+            routes: Routes::new(),
+            limit: 1,
+        }
     }
 
     /// The itinerary book: plans have up to eight legs. Every craft stands.
     pub fn itinerary() -> PlanBook
         ensures { λ r. ⌜ plan-book-of r ≡ empty-book 8 ⌝ }
     {
-        PlanBook { routes: Routes::new(), limit: 8 }
+        PlanBook {
+            routes: Routes::new(),
+            limit: 8,
+        }
     }
 }
 

@@ -52,7 +52,7 @@ coordinate-at ws k = signed-in 2147483648 2147483647 (at ws k)
 -- open BOOK LAYERS QUEUE
 abbrev pub open-of : Words → Option Command
 open-of ws = of-words 4 ws
-  (and-then (book-of (at ws 1)) (λ b. and-then (unsigned-in 4 (at ws 2)) (λ l. and-then (queue-of (at ws 3)) (λ q. Some (Open b l q)))))
+    (and-then (book-of (at ws 1)) (λ b. and-then (unsigned-in 4 (at ws 2)) (λ l. and-then (queue-of (at ws 3)) (λ q. Some (Open b l q)))))
 
 -- room SLIP PAGE LIST
 abbrev pub room-of : Words → Option Command
@@ -72,7 +72,7 @@ ride-of ws = cond (sameBytes (at ws 3) (codes "off")) (off-of ws) (cond (sameByt
 -- enter C HX HY HZ
 abbrev pub enter-of : Words → Option Command
 enter-of ws = of-words 5 ws
-  (and-then (byte-at ws 1) (λ c. and-then (short-at ws 2) (λ x. and-then (short-at ws 3) (λ y. and-then (short-at ws 4) (λ z. Some (Enter c x y z))))))
+    (and-then (byte-at ws 1) (λ c. and-then (short-at ws 2) (λ x. and-then (short-at ws 3) (λ y. and-then (short-at ws 4) (λ z. Some (Enter c x y z))))))
 
 -- leave C
 abbrev pub leave-of : Words → Option Command
@@ -103,9 +103,9 @@ follows-of ws = of-words 3 ws (and-then (byte-at ws 1) (λ d. and-then (byte-at 
 -- leg T VX VY VZ, the leg's number i from 0
 abbrev pub leg-text : Words → ℕ → Option LegText
 leg-text ws i = cond (sameBytes (at ws (5 * i + 6)) (codes "leg"))
-  (and-then (short-at ws (5 * i + 7)) (λ t. and-then (speed-at ws (5 * i + 8)) (λ x. and-then (speed-at ws (5 * i + 9)) (λ y. and-then (speed-at ws (5 * i + 10)) (λ z.
+    (and-then (short-at ws (5 * i + 7)) (λ t. and-then (speed-at ws (5 * i + 8)) (λ x. and-then (speed-at ws (5 * i + 9)) (λ y. and-then (speed-at ws (5 * i + 10)) (λ z.
     Some (record { start = t; x = x; y = y; z = z }))))))
-  None
+    None
 
 -- the first n legs
 abbrev pub legs-text : Words → ℕ → Option (List LegText)

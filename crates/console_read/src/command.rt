@@ -38,20 +38,54 @@ pub struct Filing {
 /// A command with its arguments.
 #[derive(Clone, Copy, PartialEq, Eq, Debug)]
 pub enum Command {
-    Open { book: Book, layers: u8, queue: Queue },
-    Room { slip: u32, page: u32, list: u32 },
+    Open {
+        book: Book,
+        layers: u8,
+        queue: Queue,
+    },
+    Room {
+        slip: u32,
+        page: u32,
+        list: u32,
+    },
     File(Filing),
-    Ride { craft: u8, level: u8, carrier: Option<u8> },
-    Enter { craft: u8, x: u16, y: u16, z: u16 },
-    Leave { craft: u8 },
-    Set { n: u32, d: u16 },
+    Ride {
+        craft: u8,
+        level: u8,
+        carrier: Option<u8>,
+    },
+    Enter {
+        craft: u8,
+        x: u16,
+        y: u16,
+        z: u16,
+    },
+    Leave {
+        craft: u8,
+    },
+    Set {
+        n: u32,
+        d: u16,
+    },
     Step,
     Run,
     Rest,
-    Touching { a: u8, b: u8 },
+    Touching {
+        a: u8,
+        b: u8,
+    },
     List,
-    Certificate { slot: u16 },
-    Leg { craft: u8, n: u32, d: u16 },
-    Follows { d: u8, c: u8 },
+    Certificate {
+        slot: u16,
+    },
+    Leg {
+        craft: u8,
+        n: u32,
+        d: u16,
+    },
+    Follows {
+        d: u8,
+        c: u8,
+    },
     Cues,
 }

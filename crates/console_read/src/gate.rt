@@ -1,7 +1,6 @@
 //! What is looked at before a command is carried out: whether the console is open, and the kind of its clock.
 ghost use mathlib.Core.Path.{_≡_};
 ghost use Rattle.console_read.specs.Gates.{word-of, need-of, clock-stops, role-of, stopped-by};
-
 use crate::command::Command;
 
 /// The clock that a command needs.
@@ -67,7 +66,8 @@ pub fn clock_needed(command: &Command) -> Need
 {
     match command {
         Command::Step | Command::Run | Command::Rest => Need::Due,
-        Command::File(_) | Command::Ride { .. } | Command::Enter { .. } | Command::Leave { .. } => Need::Quiet,
+        Command::File(_) | Command::Ride { .. } | Command::Enter { .. } | Command::Leave { .. } =>
+            Need::Quiet,
         Command::Set { .. } | Command::Touching { .. } | Command::List => Need::Quiet,
         _ => Need::Neither,
     }

@@ -1,7 +1,6 @@
 //! The first word of a command.
 ghost use mathlib.Core.Path.{_≡_};
 ghost use Rattle.console_read.specs.Keywords.{asking-of, keyword-of, book-of, queue-of};
-
 use crate::command::Book;
 use crate::command::Queue;
 use console_text::text::is;

@@ -5,7 +5,6 @@ ghost use lib.ListN.{length};
 ghost use Rattle.std.specs.Options.{Cases as BySome};
 ghost use Rattle.console_text.specs.Texts.{words};
 ghost use Rattle.console_read.specs.Shapes.{leg-text, legs-table, legs-in, filing-of, fixed-of, file-of};
-
 use crate::command::Command;
 use crate::command::Filing;
 use crate::command::LegText;
@@ -37,7 +36,12 @@ fn legs_table(text: &[u8], n: u8) -> Option<[LegText; 20]>
     requires { ⌜ n ≤ 20 ⌝ }
     ensures { λ r. ⌜ r ≡ legs-table (words (now (text .entry))) n ⌝ }
 {
-    let mut legs = [LegText { start: 0, x: 0, y: 0, z: 0 }; 20];
+    let mut legs = [LegText {
+        start: 0,
+        x: 0,
+        y: 0,
+        z: 0,
+    }; 20];
     for i in 0..n {
         legs[usize::from(i)] = leg_text(text, i)?;
     }
@@ -66,7 +70,15 @@ fn filing(text: &[u8], n: u8) -> Option<Command>
     let z = signed_long(word(text, 5))?;
     let legs = legs_table(text, n)?;
     let end = short(word(text, 5 * usize::from(n) + 7))?;
-    Some(Command::File(Filing { craft, x, y, z, legs, count: n, end }))
+    Some(Command::File(Filing {
+        craft,
+        x,
+        y,
+        z,
+        legs,
+        count: n,
+        end,
+    }))
 }
 
 /// The plan with n legs, where `at` and `end` stand in their places.

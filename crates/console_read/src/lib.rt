@@ -1,7 +1,7 @@
 //! The console's commands, read from a line.
 pub mod command;
 pub mod gate;
-pub mod keyword;
+mod keyword;
 mod legs;
 pub mod parsing;
 mod shapes;

@@ -2,7 +2,6 @@
 ghost use mathlib.Core.Path.{_≡_};
 ghost use Rattle.console_text.specs.Texts.{words};
 ghost use Rattle.console_read.specs.Parsing.{alone-of, command-of, told-of, parsed-of};
-
 use crate::command::Command;
 use crate::command::CommandDebug;
 use crate::command::CommandPartialEq;

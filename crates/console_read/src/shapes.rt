@@ -2,7 +2,6 @@
 ghost use mathlib.Core.Path.{_≡_};
 ghost use Rattle.console_text.specs.Texts.{words};
 ghost use Rattle.console_read.specs.Shapes.{open-of, room-of, off-of, on-of, ride-of, enter-of, leave-of, set-of, touching-of, certificate-of, leg-of, follows-of};
-
 use crate::command::Command;
 use crate::keyword::book;
 use crate::keyword::queue;
@@ -24,7 +23,11 @@ pub fn open(text: &[u8]) -> Option<Command>
     let book = book(word(text, 1))?;
     let layers = unsigned(word(text, 2), 4)? as u8;
     let queue = queue(word(text, 3))?;
-    Some(Command::Open { book, layers, queue })
+    Some(Command::Open {
+        book,
+        layers,
+        queue,
+    })
 }
 
 /// `room SLIP PAGE LIST`, each at most 1,000,000.
@@ -49,7 +52,11 @@ fn off(text: &[u8]) -> Option<Command>
     }
     let craft = byte(word(text, 1))?;
     let level = byte(word(text, 2))?;
-    Some(Command::Ride { craft, level, carrier: None })
+    Some(Command::Ride {
+        craft,
+        level,
+        carrier: None,
+    })
 }
 
 /// `ride C LEVEL on K`.
@@ -62,7 +69,11 @@ fn on(text: &[u8]) -> Option<Command>
     let craft = byte(word(text, 1))?;
     let level = byte(word(text, 2))?;
     let carrier = byte(word(text, 4))?;
-    Some(Command::Ride { craft, level, carrier: Some(carrier) })
+    Some(Command::Ride {
+        craft,
+        level,
+        carrier: Some(carrier),
+    })
 }
 
 /// `ride C LEVEL on K` or `ride C LEVEL off`.

@@ -55,5 +55,5 @@ both (Some n) (Some d) = Some (n, d)
 -- a time N or N/D, in 32 and 16 bits; N is N/1
 abbrev pub time-in : List ℕ → Option (ℕ × ℕ)
 time-in w = cond (ltb (place 47 w) (length w))
-  (both (unsigned-in 4294967295 (take (place 47 w) w)) (unsigned-in 65535 (drop (place 47 w + 1) w)))
-  (both (unsigned-in 4294967295 w) (Some 1))
+    (both (unsigned-in 4294967295 (take (place 47 w) w)) (unsigned-in 65535 (drop (place 47 w + 1) w)))
+    (both (unsigned-in 4294967295 w) (Some 1))

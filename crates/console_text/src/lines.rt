@@ -2,7 +2,6 @@
 ghost use mathlib.Core.Path.{_≡_};
 ghost use Rattle.console_text.specs.Texts.{without-return, first-line, after-line, next-line};
 ghost use Rattle.console_text.specs.Lent.{lent};
-
 use crate::text::after;
 use crate::text::find;
 

@@ -3,7 +3,6 @@ ghost use mathlib.Core.Path.{_≡_};
 ghost use Prim.Native.Nat.{ℕ, _≤_};
 ghost use Rattle.std.specs.Options.{Cases as BySome};
 ghost use Rattle.console_text.specs.Numbers.{digits-in, limited, unsigned-in, signed-in, time-in};
-
 use crate::text::after;
 use crate::text::find;
 

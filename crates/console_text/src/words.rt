@@ -5,7 +5,6 @@ ghost use Prim.Native.Nat.{_-_, _≤_, _<_};
 ghost use lib.ListN.{length, take, drop, getD};
 ghost use Rattle.std.specs.Options.{Cases as BySome};
 ghost use Rattle.console_text.specs.Texts.{before-comment, words, Next-word};
-
 use crate::text::find;
 
 /// A line without its comment, which begins at the first `#`.

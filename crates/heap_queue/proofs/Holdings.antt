@@ -17,8 +17,9 @@ use Rattle.rules.specs.Stamps.{Stamp, is-earlier}
 use Rattle.rules.specs.Slots.{Queue, First}
 use Rattle.times.specs.declared.moment.Moment.{Moment}
 use Rattle.times.specs.Of.{moment-of}
-use Rattle.queues.specs.Meanings.{slot-out, changed, soonest, is-nothing}
+use Rattle.queues.specs.Meanings.{soonest, is-nothing}
 use Rattle.queues.specs.Laws.{Held}
+use Rattle.queues.proofs.Changed.{held-by}
 use Rattle.queues.proofs.Firsts.{some-none, some-some, first-only}
 use Rattle.heap_queue.specs.declared.tree.Tree.{Tree}
 use Rattle.heap_queue.specs.Orders.{stamp-at, ranks-before, comes-before, Laws}
@@ -49,10 +50,7 @@ held-usual t ms size k m h =
     (stamp-usual ms k (omega (arith, placed-below t (stamp-at ms) k m h)))
 
 pub holds-held : (t : Tree) (ms : List Moment) → length ms ≡ 12352 → Held (held t (stamp-at ms))
-holds-held t ms size = record {
-  within = past-none t (stamp-at ms);
-  proper = λ k m h. held-usual t ms size k m h .proper;
-}
+holds-held t ms size = held-by _ (past-none t (stamp-at ms)) (held-usual t ms size)
 
 -- the root comes first of all
 root-by : (before : ℕ → ℕ → Bool) → Laws before → (t : Tree) → Ordered before t → (n i : ℕ) → i ≤ n → i < t .len → before (slot-of t i) (slot-of t 0) ≡ false
@@ -143,7 +141,3 @@ drop-held t u f slot gone placed = fun-ext λ k. ⊎-elim
     let p = placed k n in
     (λ i. cond (p i) None (Some (f k))) ∙ sym (cond-false (eqb k slot) None (held t f k) (ne-eqb k slot n)))
     (cases-eq k slot)
-
--- a slot that is not above the last is changed
-pub changed-in : (q : Queue) (slot : ℕ) (o : Option Stamp) → slot < 12352 → put q slot o ≡ changed q slot o
-changed-in q slot o l = sym (cond-false (slot-out slot) q (put q slot o) (le-ltb 12351 slot (omega arith)))

@@ -52,7 +52,7 @@ module _ (s : ℕ → Option ℕ) (b : Book) (c : ℕ) (t : Fraction) (l : LegAn
   pub leg-rides : (k : ℕ) (m r : LegAnswer) → Some k ≡ added s b c → Ok (answer-of m) ≡ leg-answer b k t → r ≡ added-legs l m → Ok (answer-of r) ≡ leg-answer (layered s b) c t
   leg-rides k m r e f g =
       by-path (answer-of r) (sum (path b c) (path b k)) (ap (carried (path b) c) e ∙ sym (layered-path s b c))
-          (ap answer-of g ∙ legs-sum l m (path b c) (path b k) t (own .1) (asked-ok (out-of-range k) (answer-of m) (leg-asked (path b k) t) f .1))
+      (ap answer-of g ∙ legs-sum l m (path b c) (path b k) t (own .1) (asked-ok (out-of-range k) (answer-of m) (leg-asked (path b k) t) f .1))
 
 module _ (s : ℕ → Option ℕ) (b : Book) (d c : ℕ) (x : Bool) (q : Ok x ≡ follow-answer b d c) where
   direct : ((out-of-range d || out-of-range c) ≡ false) × (x ≡ follows b c d)

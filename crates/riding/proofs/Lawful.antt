@@ -30,17 +30,20 @@ one-below (ride c j k) s b = by (cases-bool (leb (b .scale) 4)) (cases-bool (eqb
   where
     by : (leb (b .scale) 4 ≡ true) ⊎ (leb (b .scale) 4 ≡ false) → (eqb j (b .levels) ≡ true) ⊎ (eqb j (b .levels) ≡ false) → Below s b (changed (ride c j k) (layered s b))
     by (inl t) (inl e) = record {
-        seats = sat c k s;
-        changes = [];
-        same = ap (λ (l : ℕ). changed (ride c l k) (layered s b)) (eqb-true j (b .levels) e) ∙ sym (seat-layered s b c k t) }
+      seats = sat c k s;
+      changes = [];
+      same = ap (λ (l : ℕ). changed (ride c l k) (layered s b)) (eqb-true j (b .levels) e) ∙ sym (seat-layered s b c k t);
+    }
     by (inl t) (inr e) = record {
-        seats = s;
-        changes = ride c j k ∷ [];
-        same = sym (ride-layered s b c j k (λ _ q. both-ways (eqb j (b .levels)) e (eq-eqb j (b .levels) q))) }
+      seats = s;
+      changes = ride c j k ∷ [];
+      same = sym (ride-layered s b c j k (λ _ q. both-ways (eqb j (b .levels)) e (eq-eqb j (b .levels) q)));
+    }
     by (inr t) e = record {
-        seats = s;
-        changes = ride c j k ∷ [];
-        same = sym (ride-layered s b c j k (λ h _. both-ways (leb (b .scale) 4) t h)) }
+      seats = s;
+      changes = ride c j k ∷ [];
+      same = sym (ride-layered s b c j k (λ h _. both-ways (leb (b .scale) 4) t h));
+    }
 
 changed-both : (xs ys : List BookChange) (b : Book) → changed-by ys (changed-by xs b) ≡ changed-by (xs ++ ys) b
 changed-both [] ys b = refl
@@ -54,7 +57,8 @@ all-below (x ∷ xs) s b =
     record {
       seats = r .seats;
       changes = o .changes ++ r .changes;
-      same = ap (changed-by xs) (o .same) ∙ r .same ∙ ap (layered (r .seats)) (changed-both (o .changes) (r .changes) b) }
+      same = ap (changed-by xs) (o .same) ∙ r .same ∙ ap (layered (r .seats)) (changed-both (o .changes) (r .changes) b);
+    }
 
 scale-by : (xs : List BookChange) (b : Book) → changed-by xs b .scale ≡ b .scale
 scale-by [] b = refl
@@ -73,7 +77,7 @@ layer-kept : (s r : ℕ → Option ℕ) (b e : Book) → e .scale ≡ b .scale �
 layer-kept s r b e q h k c =
     subst (λ (n : ℕ). Kept n (path (layered r e) c)) (sym (layered-scale s b))
     (subst (Kept (cond (leb (b .scale) 4) (2 * b .scale) 9)) (sym (layered-path r e c ∙ ap (λ (n : ℕ). carried (path e) c (cond (leb n 4) (r c) None)) q))
-        (kept-above (leb (b .scale) 4) r (path e) (b .scale) c h k))
+    (kept-above (leb (b .scale) 4) r (path e) (b .scale) c h k))
 
 layer-low : (t : Bool) (s : ℕ → Option ℕ) (b : Book) → 2 ^ b .levels ≤ b .scale → b .scale ≤ 9 → 2 ^ lay t s b .levels ≤ lay t s b .scale
 layer-low true s b l h = let e = pow-succ' 2 (b .levels) in omega (arith, e, l)
@@ -88,10 +92,11 @@ layer-high s b h = subst (λ (n : ℕ). n ≤ 9) (sym (layered-scale s b)) (by (
 
 pub layered-lawful : (s : ℕ → Option ℕ) (b : Book) → Lawful b → Lawful (layered s b)
 layered-lawful s b l = record {
-    paths = λ xs c.
+  paths = λ xs c.
       let o = all-below xs s b in
       let e = changed-by (o .changes) b in
       subst (λ (f : Book). Kept (layered s b .scale) (path f c)) (sym (o .same))
-        (layer-kept s (o .seats) b e (scale-by (o .changes) b) (l .high) (λ d. l .paths (o .changes) d) c);
-    low = layer-low (leb (b .scale) 4) s b (l .low) (l .high);
-    high = layer-high s b (l .high) }
+      (layer-kept s (o .seats) b e (scale-by (o .changes) b) (l .high) (λ d. l .paths (o .changes) d) c);
+  low = layer-low (leb (b .scale) 4) s b (l .low) (l .high);
+  high = layer-high s b (l .high);
+}

@@ -173,8 +173,8 @@ ride-layered s b c j k n =
         let l = leb-false (b .levels) j (accepted-level (out-of-range c || carrier-out k) (carrier-is k c) (leb (b .levels) j) e) in
         let m : ¬ (j ≡ b .levels) = λ q. omega arith in
         book-≡ (suc (b .levels)) (b .limit) (2 * b .scale) (b .own) _ _
-            (puts-commute (b .seat) j (b .levels) (put (b .seat j) c k) s m
-            ∙ ap (λ (f : ℕ → Option ℕ). put (put (b .seat) (b .levels) s) j (put f c k)) (sym (put-other (b .seat) (b .levels) j s m)))
+        (puts-commute (b .seat) j (b .levels) (put (b .seat j) c k) s m
+        ∙ ap (λ (f : ℕ → Option ℕ). put (put (b .seat) (b .levels) s) j (put f c k)) (sym (put-other (b .seat) (b .levels) j s m)))
 
 -- RIDES AT THE LEVEL THAT THE LAYER ADDS
 
@@ -207,5 +207,5 @@ seat-layered s b c k t =
     by (Some n) = refl
     by None =
         book-≡ (suc (b .levels)) (b .limit) (2 * b .scale) (b .own) _ _
-            (sym (put-twice (b .seat) (b .levels) s (put s c k))
-            ∙ ap (λ (f : ℕ → Option ℕ). put (put (b .seat) (b .levels) s) (b .levels) (put f c k)) (sym (put-here (b .seat) (b .levels) s)))
+        (sym (put-twice (b .seat) (b .levels) s (put s c k))
+        ∙ ap (λ (f : ℕ → Option ℕ). put (put (b .seat) (b .levels) s) (b .levels) (put f c k)) (sym (put-here (b .seat) (b .levels) s)))

@@ -32,27 +32,31 @@ on-axis l p t e a = ap (λ (r : (Axis → Line) × Option ℕ). r .0 a) e
 line-sum : (u v : ℤ × ℤ) (p q : Path) (a : Axis) (i : ℕ) → line-of u ≡ line-at p a i → line-of v ≡ line-at q a i → line-of (plus u v) ≡ line-at (sum p q) a i
 line-sum u v p q a i e f =
     line-≡ (line-of (plus u v)) (line-at (sum p q) a i)
-        (ap₂ _+ℤ_ (ap (λ (l : Line). l .base) e) (ap (λ (l : Line). l .base) f) ∙ sym (sum-base p q a i))
-        (ap₂ _+ℤ_ (ap (λ (l : Line). l .slope) e) (ap (λ (l : Line). l .slope) f) ∙ sym (sum-slope p q a i))
+    (ap₂ _+ℤ_ (ap (λ (l : Line). l .base) e) (ap (λ (l : Line). l .base) f) ∙ sym (sum-base p q a i))
+    (ap₂ _+ℤ_ (ap (λ (l : Line). l .slope) e) (ap (λ (l : Line). l .slope) f) ∙ sym (sum-slope p q a i))
 
 pub legs-sum : (l m : LegAnswer) (p q : Path) (t : Fraction) → answer-of l ≡ leg-asked p t → answer-of m ≡ leg-asked q t → answer-of (added-legs l m) ≡ leg-asked (sum p q) t
 legs-sum l m p q t e f =
-    λ j. (xyz-≡ (leg (sum p q) t) (line-of (plus (l .x) (m .x))) (line-of (plus (l .y) (m .y))) (line-of (plus (l .z) (m .z)))
-            (line-sum (l .x) (m .x) p q X (whole t) (on-axis l p t e X) (on-axis m q t f X))
-            (line-sum (l .y) (m .y) p q Y (whole t) (on-axis l p t e Y) (on-axis m q t f Y))
-            (line-sum (l .z) (m .z) p q Z (whole t) (on-axis l p t e Z) (on-axis m q t f Z)) j,
-          (ap₂ earlier (ap (λ (r : (Axis → Line) × Option ℕ). r .1) e) (ap (λ (r : (Axis → Line) × Option ℕ). r .1) f) ∙ sym (first-both t (p .breaks) (q .breaks))) j)
+    λ j. (
+      xyz-≡ (leg (sum p q) t) (line-of (plus (l .x) (m .x))) (line-of (plus (l .y) (m .y))) (line-of (plus (l .z) (m .z)))
+          (line-sum (l .x) (m .x) p q X (whole t) (on-axis l p t e X) (on-axis m q t f X))
+          (line-sum (l .y) (m .y) p q Y (whole t) (on-axis l p t e Y) (on-axis m q t f Y))
+          (line-sum (l .z) (m .z) p q Z (whole t) (on-axis l p t e Z) (on-axis m q t f Z)) j,
+      (ap₂ earlier (ap (λ (r : (Axis → Line) × Option ℕ). r .1) e) (ap (λ (r : (Axis → Line) × Option ℕ). r .1) f) ∙ sym (first-both t (p .breaks) (q .breaks))) j,
+    )
 
 small-line : (u : ℤ × ℤ) (p : Path) (a : Axis) (i n : ℕ) → Kept n p → n ≤ 4 → line-of u ≡ line-at p a i → Small u
 small-line u p a i n k h e = record {
-    base = subst (λ (z : ℤ). natAbs z ≤ 404000000) (sym (ap (λ (l : Line). l .base) e)) (let b = k .bases a i in omega (arith, b));
-    slope = subst (λ (z : ℤ). natAbs z ≤ 4000) (sym (ap (λ (l : Line). l .slope) e)) (let b = k .slopes a i in omega (arith, b)) }
+  base = subst (λ (z : ℤ). natAbs z ≤ 404000000) (sym (ap (λ (l : Line). l .base) e)) (let b = k .bases a i in omega (arith, b));
+  slope = subst (λ (z : ℤ). natAbs z ≤ 4000) (sym (ap (λ (l : Line). l .slope) e)) (let b = k .slopes a i in omega (arith, b));
+}
 
 pub small-legs : (l : LegAnswer) (p : Path) (t : Fraction) (n : ℕ) → Kept n p → n ≤ 4 → answer-of l ≡ leg-asked p t → SmallLegs l
 small-legs l p t n k h e = record {
-    x = small-line (l .x) p X (whole t) n k h (on-axis l p t e X);
-    y = small-line (l .y) p Y (whole t) n k h (on-axis l p t e Y);
-    z = small-line (l .z) p Z (whole t) n k h (on-axis l p t e Z) }
+  x = small-line (l .x) p X (whole t) n k h (on-axis l p t e X);
+  y = small-line (l .y) p Y (whole t) n k h (on-axis l p t e Y);
+  z = small-line (l .z) p Z (whole t) n k h (on-axis l p t e Z);
+}
 
 -- an answer that is given is the one asked for, of a craft in range; a refusal says that it is out of range
 pub asked-ok : {A : Type 0} (t : Bool) (x y : A) → _≡_ {A = Result A ℕ} (Ok x) (cond t (Err 2) (Ok y)) → (t ≡ false) × (x ≡ y)

@@ -52,6 +52,7 @@ seated-set xs c o r h d k e = by (cases-eq d c) (cases-lt c (length xs))
   where
     f : carrier-out o ≡ false
     f = accepted-carrier (out-of-range c) o (carrier-is o c) (sym r)
+
     by : (d ≡ c) ⊎ (d ≡ c → ⊥) → (c < length xs) ⊎ (length xs ≤ c) → k < 64
     by (inl q) (inl l) = in-range o k f (sym (ap (λ (i : ℕ). getD (set xs c o) i None) q ∙ getD-set-same xs c o None l) ∙ e)
     by (inl q) (inr l) = absurd (some-none (getD (set xs c o) d None) k (let s = length-set xs c o in getD-past (set xs c o) d None (omega arith)) e)

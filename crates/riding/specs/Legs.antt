@@ -5,7 +5,6 @@ use Rattle.plans.specs.declared.answer.LegAnswer.{LegAnswer}
 use Rattle.plans.specs.Lines.{plus}
 use Rattle.books.specs.Breaks.{earlier}
 
-
 abbrev pub added-legs : LegAnswer → LegAnswer → LegAnswer
 added-legs l m = record { x = plus (l .x) (m .x); y = plus (l .y) (m .y); z = plus (l .z) (m .z); next = earlier (l .next) (m .next) }
 

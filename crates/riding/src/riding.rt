@@ -8,7 +8,6 @@ ghost use Rattle.std.specs.declared.option.Option.the-variants.{None};
 ghost use Rattle.rules.specs.Books.{layered};
 ghost use Rattle.riding.specs.Layer.{added};
 ghost use Rattle.riding.specs.Seats.{seats-of};
-
 use crate::seats::Seats;
 use crate::sums::sum;
 use books::FlightBook;
@@ -30,7 +29,10 @@ impl<B: FlightBook> Riding<B> {
     pub fn over(below: B) -> Riding<B>
         ensures { λ r. ⌜ layered (seats-of (r .seats)) (B·FlightBook .meaning (r .below)) ≡ layered (λ _. None) (B·FlightBook .meaning below) ⌝ }
     {
-        Riding { below, seats: Seats::new() }
+        Riding {
+            below,
+            seats: Seats::new(),
+        }
     }
 
     /// The seat that this layer adds for a craft, if any.
@@ -58,7 +60,11 @@ pub impl<B: FlightBook> FlightBook for Riding<B> as RidingFlights {
 
     fn levels(&self) -> u8 {
         let levels = self.below.levels();
-        if self.below.scale() <= 4 { levels + 1 } else { levels }
+        if self.below.scale() <= 4 {
+            levels + 1
+        } else {
+            levels
+        }
     }
 
     fn scale(&self) -> u8 {

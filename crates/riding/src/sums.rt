@@ -3,7 +3,6 @@ ghost use mathlib.Core.Path.{_≡_};
 ghost use Rattle.plans.specs.Lines.{plus};
 ghost use Rattle.books.specs.Breaks.{earlier};
 ghost use Rattle.riding.specs.Legs.{added-legs, Small, SmallLegs};
-
 use plans::LegAnswer;
 
 /// The leg of two paths added.
@@ -11,7 +10,12 @@ pub(crate) fn sum(l: LegAnswer, m: LegAnswer) -> LegAnswer
     requires { ⌜ SmallLegs l ⌝ ∗ ⌜ SmallLegs m ⌝ }
     ensures { λ r. ⌜ r ≡ added-legs l m ⌝ }
 {
-    LegAnswer { x: add(l.x, m.x), y: add(l.y, m.y), z: add(l.z, m.z), next: sooner(l.next, m.next) }
+    LegAnswer {
+        x: add(l.x, m.x),
+        y: add(l.y, m.y),
+        z: add(l.z, m.z),
+        next: sooner(l.next, m.next),
+    }
 }
 
 /// The sum of two lines.

@@ -6,7 +6,6 @@ ghost use Rattle.rules.specs.Paths.{Path, standing};
 ghost use Rattle.times.specs.Of.{time-of};
 ghost use Rattle.plans.specs.Routes.{route-path, answer-of, leg-asked};
 ghost use Rattle.books.specs.Routes.{routes-of};
-
 use crate::routes::Routes;
 use plans::LegAnswer;
 use plans::Route;

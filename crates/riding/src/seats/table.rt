@@ -6,7 +6,6 @@ ghost use Rattle.std.specs.declared.option.Option.the-variants.{None};
 ghost use Rattle.books.specs.Told.{refusal-told};
 ghost use Rattle.riding.specs.Layer.{seat-refusal, sat};
 ghost use Rattle.riding.specs.Seats.{seats-of, told-number};
-
 use crate::seats::Seats;
 use times::Refusal;
 

@@ -27,10 +27,11 @@ loop-i-again c =
     let low : i < 20 = omega arith in
     let short : i < length ls = omega arith in
     let P : ℕ → Type 0 = λ k. (length (set ls k l) ≡ 20) × (legs-text ws (i + 1) ≡ Some (take (i + 1) (set ls k l))) × (drop (i + 1) (set ls k l) ≡ replicate (20 - (i + 1)) blank) in
-    subst P (sym (c .from .ensures))
-    (length-set ls i l ∙ c .loop-i .inv .0,
-     legs-more ws i (take i ls) l (c .loop-i .inv .1) (sym (c .in-Continue-legs .ensures tt)) ∙ ap Some (sym (take-more-set ls i l short)),
-     blank-less ls i l low (c .loop-i .inv .2))
+    subst P (sym (c .from .ensures)) (
+      length-set ls i l ∙ c .loop-i .inv .0,
+      legs-more ws i (take i ls) l (c .loop-i .inv .1) (sym (c .in-Continue-legs .ensures tt)) ∙ ap Some (sym (take-more-set ls i l short)),
+      blank-less ls i l low (c .loop-i .inv .2),
+    )
 
 pub returns : need.returns
 returns c =

@@ -13,7 +13,8 @@ pub returns : need.returns
 returns c =
     let l = c .args .line .now in
     let other : eqb (getD l (length l - 1) 0) 13 ≡ false =
-        elim (c .else-n-gt0 .came) [
-            else-n-gt0·by·then-n-gt0·else-line-n-eq13 w ↦ ne-eqb _ 13 (w .if-line-n-eq13 .left)
-            | else-n-gt0·by·else-n-gt0 w ↦ ne-eqb _ 13 (λ e. omega (arith, getD-past l (length l - 1) 0 (omega arith), e)) ] in
+    elim (c .else-n-gt0 .came) [
+      | else-n-gt0·by·then-n-gt0·else-line-n-eq13 w ↦ ne-eqb _ 13 (w .if-line-n-eq13 .left)
+      | else-n-gt0·by·else-n-gt0 w ↦ ne-eqb _ 13 (λ e. omega (arith, getD-past l (length l - 1) 0 (omega arith), e))
+    ] in
     sym (cond-false (eqb (getD l (length l - 1) 0) 13) (take (length l - 1) l) l other)

@@ -24,11 +24,12 @@ returns-then-b-lt48 c =
     let ds = c .args .text .now in
     let x = getD ds (c .loop-b .b-index) 0 in
     let no-digit : is-digit x ≡ false =
-        elim (c .then-b-lt48 .came) [
-            then-b-lt48·by·then-b-lt48 w ↦ and-left (leb 48 x) (leb x 57) (lt-leb 48 x (w .if-b-lt48 .taken))
-            | then-b-lt48·by·else-b-lt48·then-b-gt57 w ↦ and-right (leb 48 x) (leb x 57) (lt-leb x 57 (w .if-b-gt57 .taken)) ] in
+    elim (c .then-b-lt48 .came) [
+      | then-b-lt48·by·then-b-lt48 w ↦ and-left (leb 48 x) (leb x 57) (lt-leb 48 x (w .if-b-lt48 .taken))
+      | then-b-lt48·by·else-b-lt48·then-b-gt57 w ↦ and-right (leb 48 x) (leb x 57) (lt-leb x 57 (w .if-b-gt57 .taken))
+    ] in
     sym (some-in (c .args .most) ds (c .if-is-empty .ensures tt) ∙ sym (c .loop-b .inv .1)
-         ∙ digit-none (c .args .most) (c .loop-b .value) ds (c .loop-b .b-index) (c .loop-b-test .taken) no-digit)
+    ∙ digit-none (c .args .most) (c .loop-b .value) ds (c .loop-b .b-index) (c .loop-b-test .taken) no-digit)
 
 pub returns-then-value-from : need.returns-then-value-from
 returns-then-value-from c =
@@ -39,8 +40,8 @@ returns-then-value-from c =
     let x = getD ds i 0 in
     let large : m < v * 10 + (x - 48) = omega arith in
     sym (some-in m ds (c .if-is-empty .ensures tt) ∙ sym (c .loop-b .inv .1)
-         ∙ digit-more m v ds i (c .loop-b-test .taken) (digit x (omega arith) (omega arith))
-         ∙ over m (v * 10 + (x - 48)) (drop (i + 1) ds) large)
+    ∙ digit-more m v ds i (c .loop-b-test .taken) (digit x (omega arith) (omega arith))
+    ∙ over m (v * 10 + (x - 48)) (drop (i + 1) ds) large)
 
 pub loop-b-again : need.loop-b-again
 loop-b-again c =
@@ -48,11 +49,12 @@ loop-b-again c =
     let i = c .loop-b .b-index in
     let m = c .args .most in
     let v = c .loop-b .value in
-    let x = getD ds i 0 in
-    (omega arith,
-     ap (λ (k : ℕ). limited m (digits-from (v * 10 + k) (drop (i + 1) ds))) (c .from .ensures)
-     ∙ sym (digit-more m v ds i (c .loop-b-test .taken) (digit x (omega arith) (omega arith)))
-     ∙ c .loop-b .inv .1)
+    let x = getD ds i 0 in (
+      omega arith,
+      ap (λ (k : ℕ). limited m (digits-from (v * 10 + k) (drop (i + 1) ds))) (c .from .ensures)
+          ∙ sym (digit-more m v ds i (c .loop-b-test .taken) (digit x (omega arith) (omega arith)))
+          ∙ c .loop-b .inv .1,
+    )
 
 pub returns : need.returns
 returns c =
@@ -60,5 +62,5 @@ returns c =
     let m = c .args .most in
     let v = c .loop-b .value in
     sym (some-in m ds (c .if-is-empty .ensures tt) ∙ sym (c .loop-b .inv .1)
-         ∙ at-drop-all (λ (l : List ℕ). limited m (digits-from v l)) ds (c .loop-b .b-index) (c .loop-b-test .left)
-         ∙ cond-true (leb v m) (Some v) None (le-leb v m (c .loop-b .inv .0)))
+    ∙ at-drop-all (λ (l : List ℕ). limited m (digits-from v l)) ds (c .loop-b .b-index) (c .loop-b-test .left)
+    ∙ cond-true (leb v m) (Some v) None (le-leb v m (c .loop-b .inv .0)))

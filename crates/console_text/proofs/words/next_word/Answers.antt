@@ -22,11 +22,13 @@ pub loop-end-again : need.loop-end-again
 loop-end-again c =
     let bs = c .args .bytes .now in
     let s = c .loop-start .start in
-    let e = c .loop-end .end in
-    (omega arith, omega arith,
-     ap (λ (r : List ℕ). words-from r (drop (e + 1) bs)) (run-take bs s e (c .loop-end .inv .0) (c .loop-end-test .taken))
-     ∙ sym (run-more (take (e - s) (drop s bs)) bs e (c .loop-end-test .taken) (c .if-bytes-end-ne32 .taken))
-     ∙ c .loop-end .inv .2)
+    let e = c .loop-end .end in (
+      omega arith,
+      omega arith,
+      ap (λ (r : List ℕ). words-from r (drop (e + 1) bs)) (run-take bs s e (c .loop-end .inv .0) (c .loop-end-test .taken))
+          ∙ sym (run-more (take (e - s) (drop s bs)) bs e (c .loop-end-test .taken) (c .if-bytes-end-ne32 .taken))
+          ∙ c .loop-end .inv .2,
+    )
 
 pub returns-else-bytes-end-ne32 : need.returns-else-bytes-end-ne32
 returns-else-bytes-end-ne32 c =
@@ -35,20 +37,22 @@ returns-else-bytes-end-ne32 c =
     let e = c .loop-end .end in
     let run = take (e - s) (drop s bs) in
     let more : s < e =
-        elim (c .loop-start-test .came) [
-            then-loop-start-test·else-bytes-start-eq32 w ↦
-                ⊎-elim
-                (λ q. absurd (w .if-bytes-start-eq32 .left (ap (λ (k : ℕ). getD bs k 0) q ∙ c .if-bytes-end-ne32 .left)))
-                (λ q. omega (arith, q, c .loop-end .inv .0))
-                (cases-eq s e)
-            | else-loop-start-test w ↦ omega (arith, w .loop-start-test .left, c .if-start-bytes .left) ] in
+    elim (c .loop-start-test .came) [
+      | then-loop-start-test·else-bytes-start-eq32 w ↦
+          ⊎-elim
+          (λ q. absurd (w .if-bytes-start-eq32 .left (ap (λ (k : ℕ). getD bs k 0) q ∙ c .if-bytes-end-ne32 .left)))
+          (λ q. omega (arith, q, c .loop-end .inv .0))
+          (cases-eq s e)
+      | else-loop-start-test w ↦ omega (arith, w .loop-start-test .left, c .if-start-bytes .left)
+    ] in
     record {
-        after = c .loop-start .inv .0;
-        some = more;
-        within = c .loop-end .inv .1;
-        told =
-            sym (c .loop-start .inv .1) ∙ sym (c .loop-end .inv .2) ∙ run-ends run bs e (c .loop-end-test .taken) (c .if-bytes-end-ne32 .left)
-            ∙ keep-some run (words (drop e bs)) (run-long bs s e more (c .loop-end .inv .1)) }
+      after = c .loop-start .inv .0;
+      some = more;
+      within = c .loop-end .inv .1;
+      told =
+          sym (c .loop-start .inv .1) ∙ sym (c .loop-end .inv .2) ∙ run-ends run bs e (c .loop-end-test .taken) (c .if-bytes-end-ne32 .left)
+          ∙ keep-some run (words (drop e bs)) (run-long bs s e more (c .loop-end .inv .1));
+    }
 
 pub returns-after-loop-end : need.returns-after-loop-end
 returns-after-loop-end c =
@@ -58,9 +62,10 @@ returns-after-loop-end c =
     let run = take (e - s) (drop s bs) in
     let more : s < e = omega arith in
     record {
-        after = c .loop-start .inv .0;
-        some = more;
-        within = c .loop-end .inv .1;
-        told =
-            sym (c .loop-start .inv .1) ∙ sym (c .loop-end .inv .2) ∙ run-last run bs e (c .loop-end-test .left)
-            ∙ keep-some run (words (drop e bs)) (run-long bs s e more (c .loop-end .inv .1)) }
+      after = c .loop-start .inv .0;
+      some = more;
+      within = c .loop-end .inv .1;
+      told =
+          sym (c .loop-start .inv .1) ∙ sym (c .loop-end .inv .2) ∙ run-last run bs e (c .loop-end-test .left)
+          ∙ keep-some run (words (drop e bs)) (run-long bs s e more (c .loop-end .inv .1));
+    }

@@ -34,4 +34,5 @@ returns c =
     record {
       refusal = sym e;
       after = ap (λ (f : ℕ → Path). plain-book f (c .args .self .now .limit)) (c .set .ensures ∙ ap (λ (q : Path). put (routes-of (c .args .self .now .routes)) (c .args .craft) q) (m .1)) ∙ accepted-done (filing (c .args .craft) p) b e;
-      same = λ n. absurd (n refl) }
+      same = λ n. absurd (n refl);
+    }

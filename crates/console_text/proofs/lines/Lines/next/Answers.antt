@@ -15,5 +15,6 @@ returns-then-is-empty c =
     let e = sym (c .if-is-empty .ensures tt) in
     let z : length bs ≡ 0 = eqb-true (length bs) 0 e in
     record {
-        told = sym (cond-true (eqb (length bs) 0) None (Some (first-line bs)) e);
-        left = nil-from-length bs z ∙ sym (drop-all (place 10 bs + 1) bs (omega arith)) }
+      told = sym (cond-true (eqb (length bs) 0) None (Some (first-line bs)) e);
+      left = nil-from-length bs z ∙ sym (drop-all (place 10 bs + 1) bs (omega arith));
+    }

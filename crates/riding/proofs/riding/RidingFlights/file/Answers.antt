@@ -13,4 +13,5 @@ returns g c =
     record {
       refusal = c .file .ensures .refusal ∙ sym (file-refusal s b (c .args .craft) p);
       after = ap (layered s) (c .file .ensures .after) ∙ file-layered s b (c .args .craft) p;
-      same = λ n. λ i. record { below = c .file .ensures .same n i; seats = c .args .self .now .seats } }
+      same = λ n. λ i. record { below = c .file .ensures .same n i; seats = c .args .self .now .seats };
+    }

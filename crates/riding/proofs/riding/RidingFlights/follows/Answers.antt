@@ -11,11 +11,11 @@ returns-in-rest-seat g c =
 pub returns-then-own : need.returns-then-own
 returns-then-own g c =
     follow-rides (seats-of (c .args .self .now .seats)) (g .B·FlightBook .meaning (c .args .self .now .below)) (c .args .craft) (c .args .leader) (c .in-Ok .own) (c .in-Ok .ensures tt)
-        (c .in-Some .k) (c .in-Ok-follows .carrier) (c .in-Ok .own) (c .in-Some .ensures tt .value) (c .in-Ok-follows .ensures tt)
-        (c .if-own .taken ∙ sym (ap (λ (x : Bool). x || c .in-Ok-follows .carrier) (c .if-own .taken)))
+    (c .in-Some .k) (c .in-Ok-follows .carrier) (c .in-Ok .own) (c .in-Some .ensures tt .value) (c .in-Ok-follows .ensures tt)
+    (c .if-own .taken ∙ sym (ap (λ (x : Bool). x || c .in-Ok-follows .carrier) (c .if-own .taken)))
 
 pub returns-else-own : need.returns-else-own
 returns-else-own g c =
     follow-rides (seats-of (c .args .self .now .seats)) (g .B·FlightBook .meaning (c .args .self .now .below)) (c .args .craft) (c .args .leader) (c .in-Ok .own) (c .in-Ok .ensures tt)
-        (c .in-Some .k) (c .in-Ok-follows .carrier) (c .in-Ok-follows .carrier) (c .in-Some .ensures tt .value) (c .in-Ok-follows .ensures tt)
-        (sym (ap (λ (x : Bool). x || c .in-Ok-follows .carrier) (c .if-own .left)))
+    (c .in-Some .k) (c .in-Ok-follows .carrier) (c .in-Ok-follows .carrier) (c .in-Some .ensures tt .value) (c .in-Ok-follows .ensures tt)
+    (sym (ap (λ (x : Bool). x || c .in-Ok-follows .carrier) (c .if-own .left)))

@@ -24,7 +24,8 @@ returns-then-is-top g c =
     record {
       refusal = c .sit .ensures .refusal ∙ sym (ap (λ (j : ℕ). book-refusal (seating (c .args .craft) j (c .args .carrier)) (layered s b)) l ∙ seat-refused s b (c .args .craft) (c .args .carrier) (q .0));
       after = ap (λ (f : ℕ → Option ℕ). layered f b) (c .sit .ensures .after) ∙ seat-layered s b (c .args .craft) (c .args .carrier) (q .0) ∙ sym (ap (λ (j : ℕ). changed (seating (c .args .craft) j (c .args .carrier)) (layered s b)) l);
-      same = λ n. λ i. record { below = c .args .self .now .below; seats = c .sit .ensures .same n i } }
+      same = λ n. λ i. record { below = c .args .self .now .below; seats = c .sit .ensures .same n i };
+    }
 
 pub returns : need.returns
 returns g c =
@@ -34,4 +35,5 @@ returns g c =
     record {
       refusal = c .ride .ensures .refusal ∙ sym (ride-refusal s b (c .args .craft) (c .args .level) (c .args .carrier) w);
       after = ap (layered s) (c .ride .ensures .after) ∙ ride-layered s b (c .args .craft) (c .args .level) (c .args .carrier) w;
-      same = λ n. λ i. record { below = c .ride .ensures .same n i; seats = c .args .self .now .seats } }
+      same = λ n. λ i. record { below = c .ride .ensures .same n i; seats = c .args .self .now .seats };
+    }

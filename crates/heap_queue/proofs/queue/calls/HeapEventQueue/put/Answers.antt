@@ -1,13 +1,13 @@
 use mathlib.Core.Path.{_∙_}
 use Prim.Native.Nat.{_<_}
 use native.Mathlib.Omega.{arith}
-use borrow.Author.Needs.{needs}
 use lib.ListN.{length, length-set}
 use Rattle.std.specs.declared.option.Option.the-variants.{Some}
 use Rattle.times.specs.Of.{moment-of}
+use Rattle.queues.proofs.Changed.{changed-in, answered-in}
 use Rattle.heap_queue.specs.Queues.{holds-of}
 use Rattle.heap_queue.proofs.Tables.{table-laws}
-use Rattle.heap_queue.proofs.Holdings.{set-order, put-held, changed-in}
+use Rattle.heap_queue.proofs.Holdings.{set-order, put-held}
 use Rattle.heap_queue.proofs.queue.calls.HeapEventQueue.put.Needs as need
 
 pub settle-requires : need.settle-requires
@@ -35,7 +35,7 @@ returns c =
     let long : slot < length (q .moments) = omega (arith, q .long) in
     let e = c .settle .ensures in
     record {
-      answer = search needs;
+      answer = answered-in slot tt small;
       meaning = put-held (q .moments) slot (c .args .moment) (q .tree) (c .settle .last .self) long (e .there) (λ k n. e .placed k n ∙ c .seat-gap .ensures .placed k)
           ∙ changed-in (holds-of q) slot (Some (moment-of (c .args .moment))) small;
       refused = λ h. absurd (omega arith);
