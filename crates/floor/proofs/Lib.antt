@@ -1,2 +1,3 @@
 pub mod Granting
 pub mod Firing
+pub mod Dues
