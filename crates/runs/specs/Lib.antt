@@ -1,1 +1,2 @@
 pub mod Encounters
+pub mod Running

@@ -1,0 +1,3 @@
+pub mod Telling
+pub mod Nexts
+pub mod Going
