@@ -167,3 +167,11 @@ module _ (goal : Fraction) (m₀ m : Hall) (s₀ s p₀ p : List ℕ) (k n b : �
         short c d e o p = omega arith
         count : (c d e o : ℕ) → c + d ≤ e → o < d → c + 1 + o ≤ e
         count c d e o p q = omega arith
+
+-- a slip and a page keep their lengths
+module _ (goal : Fraction) (i i′ j j′ n b : ℕ) (m : Hall) (e : i ≡ i′) (h : j ≡ j′) where
+  pub next-at : (f : ℕ × Stamp) → Next goal (i - n) (j - b) m f → Next goal (i′ - n) (j′ - b) m f
+  next-at f x = subst (λ (y : ℕ). Next goal (i′ - n) (y - b) m f) h (subst (λ (y : ℕ). Next goal (y - n) (j - b) m f) e x)
+
+  pub stop-at : (k : ℕ) → Stop goal (i - n) (j - b) m k → Stop goal (i′ - n) (j′ - b) m k
+  stop-at k x = subst (λ (y : ℕ). Stop goal (i′ - n) (y - b) m k) h (subst (λ (y : ℕ). Stop goal (y - n) (j - b) m k) e x)
