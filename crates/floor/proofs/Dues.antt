@@ -36,6 +36,7 @@ module _ (q : Queue) (h : Held q) (goal : Fraction) where
       pick : (p : ℕ × Stamp) (b : Bool) → First q (Some p) → Some (x .0, moment-of (x .1)) ≡ cond b None (Some p) → x .0 < 12352
       pick p true l k = let z : _≡_ {A = ℕ} 0 1 = cc in absurd (omega arith)
       pick p false l k = let z : x .0 ≡ p .0 = cc in subst (λ (s : ℕ). s < 12352) (sym z) (inside (p .0) (p .1) (l .here))
+
       go : (o : Option (ℕ × Stamp)) → First q o → Some (x .0, moment-of (x .1)) ≡ due-by goal o → x .0 < 12352
       go None l k = let z : _≡_ {A = ℕ} 0 1 = cc in absurd (omega arith)
       go (Some p) l k = pick p (is-earlier (at goal) (p .1)) l k

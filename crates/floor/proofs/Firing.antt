@@ -105,22 +105,22 @@ module _ (c n : ℕ) (m : Hall) (s : List ℕ) (x : Fits (leave c) n m s) where
   module _ (m₁ : Hall) (s₁ : List ℕ) (r₁ : ℕ) (w₁ : Wrote dropped n m m₁ s s₁ r₁) where
     pub leave-takes : (slot : ℕ) → slot ≡ leg-slot c → Fits (take-away withdrawn slot) r₁ m₁ s₁
     leave-takes slot e = fits-as (take-away withdrawn (leg-slot c)) (take-away withdrawn slot) r₁ m₁ m₁ s₁ (ap (λ (z : ℕ). take-away withdrawn z m₁) (sym e))
-      (fits-first (take-away withdrawn (leg-slot c)) gone r₁ m₁ s₁ (λ h. omega arith) (fits-second dropped ended n m m₁ s s₁ r₁ whole w₁))
+        (fits-first (take-away withdrawn (leg-slot c)) gone r₁ m₁ s₁ (λ h. omega arith) (fits-second dropped ended n m m₁ s s₁ r₁ whole w₁))
 
     pub leave-wrote : (slot : ℕ) → slot ≡ leg-slot c → (m₂ m₃ : Hall) (s₂ : List ℕ) (r₂ : ℕ) → Wrote (take-away withdrawn slot) r₁ m₁ m₂ s₁ s₂ r₂ → m₃ ≡ with-craft c None m₂ → Wrote (leave c) n m m₃ s s₂ r₂
     leave-wrote slot e m₂ m₃ s₂ r₂ w₂ g =
-      let a = wrote-as (take-away withdrawn (leg-slot c)) (take-away withdrawn slot) r₁ m₁ m₁ m₂ s₁ s₂ r₂ (ap (λ (z : ℕ). take-away withdrawn z m₁) (sym e)) w₂ in
-      let b : Wrote gone r₂ m₂ m₃ s₂ s₂ r₂ = record { hall = g; slip = sym (written-none r₂ s₂); count = sym (add-zero r₂) } in
-      let y = fits-second dropped ended n m m₁ s s₁ r₁ whole w₁ in
-      let d = wrote-then (take-away withdrawn (leg-slot c)) gone r₁ m₁ m₂ m₃ s₁ s₂ s₂ r₂ r₂ (first-room (take-away withdrawn (leg-slot c)) gone r₁ m₁ s₁ y) a b in
-      let v = wrote-then dropped ended n m m₁ m₃ s s₁ s₂ r₁ r₂ (first-room dropped ended n m s whole) w₁ d in
-      record { hall = v .hall; slip = v .slip; count = v .count }
+        let a = wrote-as (take-away withdrawn (leg-slot c)) (take-away withdrawn slot) r₁ m₁ m₁ m₂ s₁ s₂ r₂ (ap (λ (z : ℕ). take-away withdrawn z m₁) (sym e)) w₂ in
+        let b : Wrote gone r₂ m₂ m₃ s₂ s₂ r₂ = record { hall = g; slip = sym (written-none r₂ s₂); count = sym (add-zero r₂) } in
+        let y = fits-second dropped ended n m m₁ s s₁ r₁ whole w₁ in
+        let d = wrote-then (take-away withdrawn (leg-slot c)) gone r₁ m₁ m₂ m₃ s₁ s₂ s₂ r₂ r₂ (first-room (take-away withdrawn (leg-slot c)) gone r₁ m₁ s₁ y) a b in
+        let v = wrote-then dropped ended n m m₁ m₃ s s₁ s₂ r₁ r₂ (first-room dropped ended n m s whole) w₁ d in
+        record { hall = v .hall; slip = v .slip; count = v .count }
 
 -- firing: the fired line, then by kind
 fire-leg-grows : (c : ℕ) (k : Stamp) → Grows (fire-leg c k)
 fire-leg-grows c k m =
-  let u = grows-axes (λ a. renews c k a (others c m)) (λ a. renews-grows c k a (others c m)) (read-leg c (craft-of c m .box) k m) in
-  omega arith
+    let u = grows-axes (λ a. renews c k a (others c m)) (λ a. renews-grows c k a (others c m)) (read-leg c (craft-of c m .box) k m) in
+    omega arith
 
 kind-grows : (b : Bool) (s : ℕ) (k : Stamp) → Grows (fire-kind b s k)
 kind-grows true s k m = omega arith
@@ -142,7 +142,7 @@ module _ (slot n : ℕ) (k : Stamp) (m : Hall) (s : List ℕ) (x : Fits (fire sl
 
     both : (f : Move) → fire-kind (ltb slot 12288) slot k m₁ ≡ f m₁ → (m₂ : Hall) (s₂ : List ℕ) (r₂ : ℕ) → Wrote f r₁ m₁ m₂ s₁ s₂ r₂ → Wrote (fire slot k) n m m₂ s s₂ r₂
     both f e m₂ s₂ r₂ w = wrote-then (take-away fired slot) (fire-kind (ltb slot 12288) slot k) n m m₁ m₂ s s₁ s₂ r₁ r₂ (first-room (take-away fired slot) (fire-kind (ltb slot 12288) slot k) n m s x) w₁
-      (wrote-as (fire-kind (ltb slot 12288) slot k) f r₁ m₁ m₁ m₂ s₁ s₂ r₂ e w)
+        (wrote-as (fire-kind (ltb slot 12288) slot k) f r₁ m₁ m₁ m₂ s₁ s₂ r₂ e w)
 
     pub fire-wrote-bit : slot < 12288 → (m₂ : Hall) (s₂ : List ℕ) (r₂ : ℕ) → Wrote (fire-bit slot k) r₁ m₁ m₂ s₁ s₂ r₂ → Wrote (fire slot k) n m m₂ s s₂ r₂
     fire-wrote-bit h = both (fire-bit slot k) (ap (λ (b : Bool). fire-kind b slot k m₁) (lt-ltb slot 12288 h))

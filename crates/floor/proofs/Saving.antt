@@ -35,11 +35,12 @@ saved-more c m n xs o h s e = record { long = length-set xs n o ∙ s .long; eac
   where
     within : n < length xs
     within = omega (arith, s .long)
+
     go : (d : ℕ) → d < n + 1 → Dec (d < n) → record-in (getD (set xs n o) d None) ≡ follower-of c m d
     go d l (yes b) = let ne : d ≢ n = omega arith in ap record-in (getD-set-other xs n d o None ne) ∙ s .each d b
     go d l (no b) =
-      let q : d ≡ n = omega arith in
-      subst (λ (z : ℕ). record-in (getD (set xs n o) z None) ≡ follower-of c m z) (sym q) (ap record-in (getD-set-same xs n o None within) ∙ e)
+        let q : d ≡ n = omega arith in
+        subst (λ (z : ℕ). record-in (getD (set xs n o) z None) ≡ follower-of c m z) (sym q) (ap record-in (getD-set-same xs n o None within) ∙ e)
 
 pub saved-all : (c : ℕ) (m : Hall) (n : ℕ) (xs : List (Option CraftRecord)) → 64 ≤ n → Saved c m n xs → Saved c m 64 xs
 saved-all c m n xs h s = record { long = s .long; each = λ d l. s .each d (omega arith) }

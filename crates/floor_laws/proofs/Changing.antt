@@ -32,7 +32,7 @@ those-those p q (x ∷ xs) = go (q x) (those-those p q xs)
 those-below : (p q : ℕ → Bool) (n : ℕ) → ((d : ℕ) → d < n → p d ≡ q d) → those p (below n) ≡ those q (below n)
 those-below p q zero h = refl
 those-below p q (suc n) h =
-  those-append p (below n) (n ∷ [])
+    those-append p (below n) (n ∷ [])
     ∙ ap₂ _++_ (those-below p q n (λ d l. h d (omega arith))) (ap (λ (b : Bool). cond b (n ∷ []) []) (h n (omega arith)))
     ∙ sym (those-append q (below n) (n ∷ []))
 
@@ -57,7 +57,7 @@ module _ (x : BookChange) (k : Stamp) (n : ℕ) (m : Hall) (s : List ℕ) (p : �
 
   same : come-back (followers (craft-set x) m) m k ≡ prefix back p 64
   same =
-    ap (λ (ds : List ℕ). come-back ds m k) e
+      ap (λ (ds : List ℕ). come-back ds m k) e
       ∙ each-same (λ d. enter d (craft-of d m .box) k) back (those p (below 64)) (λ d i. let j = those-in p (below 64) d i in ap (λ (b : Box). enter d b k) (sym (f d (in-below 64 d (j .0)) (j .1))))
 
   change-is : change x k m ≡ then (prefix leave p 64) again m
@@ -78,6 +78,6 @@ module _ (x : BookChange) (k : Stamp) (n : ℕ) (m : Hall) (s : List ℕ) (p : �
 
     pub change-wrote : (m₃ : Hall) (s₂ : List ℕ) (r₂ : ℕ) → Wrote (prefix back p 64) r m₂ m₃ s₁ s₂ r₂ → Wrote (change x k) n m m₃ s s₂ r₂
     change-wrote m₃ s₂ r₂ u =
-      wrote-as (change x k) (then (prefix leave p 64) again) n m m m₃ s s₂ r₂ change-is
+        wrote-as (change x k) (then (prefix leave p 64) again) n m m m₃ s s₂ r₂ change-is
         (wrote-then (prefix leave p 64) again n m m₁ m₃ s s₁ s₂ r r₂ (first-room (prefix leave p 64) again n m s whole) v
-          (wrote-as again (prefix back p 64) r m₁ m₂ m₃ s₁ s₂ r₂ (ap (prefix back p 64) (sym g)) u))
+        (wrote-as again (prefix back p 64) r m₁ m₂ m₃ s₁ s₂ r₂ (ap (prefix back p 64) (sym g)) u))

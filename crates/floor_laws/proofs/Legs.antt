@@ -45,7 +45,7 @@ module _ (F : Axis → List ℕ → Move) (lv : (a : Axis) (ds : List ℕ) → L
     where
       go : then (on-axes (λ a. F a (others c m))) (grant-leg c k) (read-leg c b k m) ≡ reading F c next (read-leg c b k m)
       go =
-        ap (λ (ds : List ℕ). then (on-axes (λ a. F a ds)) (grant-leg c k) (read-leg c b k m)) (sym (others-with c (Some _) m))
+          ap (λ (ds : List ℕ). then (on-axes (λ a. F a ds)) (grant-leg c k) (read-leg c b k m)) (sym (others-with c (Some _) m))
           ∙ ap (λ (o : Option ℕ). then (on-axes (λ a. F a (others c (read-leg c b k m)))) (grant (leg-slot c) (at-break o)) (read-leg c b k m)) (told ∙ sym f)
         where
           told : break-after (on-axes (λ a. F a (others c (read-leg c b k m))) (read-leg c b k m) .hall .book) c (k .time) ≡ break-after (m .book) c (k .time)

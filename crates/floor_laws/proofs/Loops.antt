@@ -29,8 +29,8 @@ those-append {A} p (x ∷ xs) ys = go (p x) (those-append p xs ys)
 pub each-append : (f : ℕ → Move) (xs ys : List ℕ) (m : Hall) → each f (xs ++ ys) m ≡ then (each f xs) (each f ys) m
 each-append f [] ys m = out-≡ _ _ refl refl
 each-append f (x ∷ xs) ys m =
-  let e = each-append f xs ys (f x m .hall) in
-  out-≡ _ _ (ap (λ (o : Out). o .hall) e)
+    let e = each-append f xs ys (f x m .hall) in
+    out-≡ _ _ (ap (λ (o : Out). o .hall) e)
     (ap (λ (o : Out). f x m .lines ++ o .lines) e ∙ sym (append-assoc (f x m .lines) _ _))
 
 each-one : (f : ℕ → Move) (d : ℕ) (m : Hall) → each f (d ∷ []) m ≡ f d m
@@ -55,21 +55,22 @@ module _ (f : ℕ → Move) (p : ℕ → Bool) where
 
   prefix-more : (d : ℕ) (m : Hall) → p d ≡ true → prefix (d + 1) m ≡ then (prefix d) (f d) m
   prefix-more d m e =
-    ap (λ (k : ℕ). prefix k m) (add-one d) ∙ prefix-suc d m
+      ap (λ (k : ℕ). prefix k m) (add-one d) ∙ prefix-suc d m
       ∙ then-as (prefix d) _ (f d) m (λ x. ap (λ (xs : List ℕ). each f xs x) (those-one d e) ∙ each-one f d x)
 
   prefix-skip : (d : ℕ) (m : Hall) → p d ≡ false → prefix (d + 1) m ≡ prefix d m
   prefix-skip d m e =
-    ap (λ (k : ℕ). prefix k m) (add-one d) ∙ ap (λ (xs : List ℕ). each f xs m) (those-append p (below d) (d ∷ []) ∙ ap (λ (ys : List ℕ). those p (below d) ++ ys) (those-none d e) ∙ append-nil (those p (below d)))
+      ap (λ (k : ℕ). prefix k m) (add-one d) ∙ ap (λ (xs : List ℕ). each f xs m) (those-append p (below d) (d ∷ []) ∙ ap (λ (ys : List ℕ). those p (below d) ++ ys) (those-none d e) ∙ append-nil (those p (below d)))
 
   -- the prefix is part of the whole
   rest-of : (d k : ℕ) → (ys : List ℕ) × (those p (below (d + k)) ≡ those p (below d) ++ ys)
   rest-of d zero = ([], ap (λ (n : ℕ). those p (below n)) (add-zero d) ∙ sym (append-nil (those p (below d))))
   rest-of d (suc k) =
-    let r = rest-of d k in
-    (r .0 ++ those p ((d + k) ∷ []),
-      ap (λ (n : ℕ). those p (below n)) (add-suc d k) ∙ those-append p (below (d + k)) ((d + k) ∷ [])
-        ∙ ap (λ (ys : List ℕ). ys ++ those p ((d + k) ∷ [])) (r .1) ∙ append-assoc (those p (below d)) (r .0) _)
+      let r = rest-of d k in (
+        r .0 ++ those p ((d + k) ∷ []),
+        ap (λ (n : ℕ). those p (below n)) (add-suc d k) ∙ those-append p (below (d + k)) ((d + k) ∷ [])
+            ∙ ap (λ (ys : List ℕ). ys ++ those p ((d + k) ∷ [])) (r .1) ∙ append-assoc (those p (below d)) (r .0) _,
+      )
 
   pub grows-each : ((d : ℕ) → Grows (f d)) → (ds : List ℕ) → Grows (each f ds)
   grows-each up [] m = omega arith
@@ -77,10 +78,10 @@ module _ (f : ℕ → Move) (p : ℕ → Bool) where
 
   pub fits-prefix : ((d : ℕ) → Grows (f d)) → (d e n : ℕ) (m : Hall) (s : List ℕ) → d ≤ e → Fits (prefix e) n m s → Fits (prefix d) n m s
   fits-prefix up d e n m s h x =
-    let r = rest-of d (e - d) in
-    let k : e ≡ d + (e - d) = omega arith in
-    let q : those p (below e) ≡ those p (below d) ++ r .0 = ap (λ (j : ℕ). those p (below j)) k ∙ r .1 in
-    fits-first (prefix d) (each f (r .0)) n m s (grows-each up (r .0))
+      let r = rest-of d (e - d) in
+      let k : e ≡ d + (e - d) = omega arith in
+      let q : those p (below e) ≡ those p (below d) ++ r .0 = ap (λ (j : ℕ). those p (below j)) k ∙ r .1 in
+      fits-first (prefix d) (each f (r .0)) n m s (grows-each up (r .0))
       (fits-as (prefix e) (then (prefix d) (each f (r .0))) n m m s (ap (λ (xs : List ℕ). each f xs m) q ∙ each-append f (those p (below d)) (r .0) m) x)
 
   pub loop-none : (n : ℕ) (m : Hall) (s : List ℕ) → Wrote (prefix 0) n m m s s n
@@ -92,11 +93,11 @@ module _ (f : ℕ → Move) (p : ℕ → Bool) where
   -- room for the next craft, out of the room for all
   pub loop-fits : ((d : ℕ) → Grows (f d)) → (d e n : ℕ) (m m₁ : Hall) (s s₁ : List ℕ) (r : ℕ) → p d ≡ true → d < e → Fits (prefix e) n m s → Wrote (prefix d) n m m₁ s s₁ r → Fits (f d) r m₁ s₁
   loop-fits up d e n m m₁ s s₁ r t h x w =
-    fits-second (prefix d) (f d) n m m₁ s s₁ r (fits-as (prefix (d + 1)) (then (prefix d) (f d)) n m m s (prefix-more d m t) (fits-prefix up (d + 1) e n m s (omega arith) x)) w
+      fits-second (prefix d) (f d) n m m₁ s s₁ r (fits-as (prefix (d + 1)) (then (prefix d) (f d)) n m m s (prefix-more d m t) (fits-prefix up (d + 1) e n m s (omega arith) x)) w
 
   pub loop-more : ((d : ℕ) → Grows (f d)) → (d e n : ℕ) (m m₁ m₂ : Hall) (s s₁ s₂ : List ℕ) (r r₂ : ℕ) → p d ≡ true → d < e → Fits (prefix e) n m s → Wrote (prefix d) n m m₁ s s₁ r → Wrote (f d) r m₁ m₂ s₁ s₂ r₂ → Wrote (prefix (d + 1)) n m m₂ s s₂ r₂
   loop-more up d e n m m₁ m₂ s s₁ s₂ r r₂ t h x w v =
-    wrote-as (prefix (d + 1)) (then (prefix d) (f d)) n m m m₂ s s₂ r₂ (prefix-more d m t)
+      wrote-as (prefix (d + 1)) (then (prefix d) (f d)) n m m m₂ s s₂ r₂ (prefix-more d m t)
       (wrote-then (prefix d) (f d) n m m₁ m₂ s s₁ s₂ r r₂ (fits-prefix up d e n m s (omega arith) x .room) w v)
 
 pub leaves-each : (f : ℕ → Move) → ((d : ℕ) → Leaves (f d)) → (ds : List ℕ) → Leaves (each f ds)
@@ -123,6 +124,7 @@ others-with c o m = ap (λ (p : ℕ → Bool). those p (below 64)) (fun-ext same
         ends-false true false = refl
         ends-false false true = refl
         ends-false false false = refl
+
         go : (b : Bool) → isSome (cond b o (m .craft d)) && not b ≡ isSome (m .craft d) && not b
         go true = ends-false (isSome o) (isSome (m .craft d))
         go false = refl
@@ -155,7 +157,7 @@ module _ (f : ℕ → Move) (up : (d : ℕ) → Grows (f d)) (lv : (d : ℕ) →
 
   at-test : (d e : ℕ) (m : Hall) (s : List ℕ) (r : ℕ) → At d m s r → other c m e ≡ other c m₀ e
   at-test d e m s r w =
-    ap (λ (g : ℕ → Option Craft). isSome (g e) && not (eqb e c)) (ap (λ (h : Hall). h .craft) (w .hall) ∙ leaves-each f lv (those (other c m₀) (below d)) m₀ .0)
+      ap (λ (g : ℕ → Option Craft). isSome (g e) && not (eqb e c)) (ap (λ (h : Hall). h .craft) (w .hall) ∙ leaves-each f lv (those (other c m₀) (below d)) m₀ .0)
 
   module _ (x : Fits (each f (others c m₀)) n m₀ s₀) (d : ℕ) (h : d < 64) (m : Hall) (s : List ℕ) (r : ℕ) (w : At d m s r) where
     so-is : (b : Bool) → other c m d ≡ b → if-other c f d m ≡ where-so b (f d) m
@@ -167,12 +169,14 @@ module _ (f : ℕ → Move) (up : (d : ℕ) → Grows (f d)) (lv : (d : ℕ) →
       where
         now : Fits (prefix f (other c m₀) d) n m₀ s₀
         now = fits-prefix f (other c m₀) up d 64 n m₀ s₀ (omega arith) x
+
         long : length s ≡ length s₀
         long = ap length (w .slip) ∙ written-length n _ s₀ (now .room)
+
         go : (b : Bool) → other c m d ≡ b → Fits (if-other c f d) r m s
         go true t = fits-as (f d) (if-other c f d) r m m s (sym (so-is true t)) (loop-fits f (other c m₀) up d 64 n m₀ m s₀ s r (sym (at-test d d m s r w) ∙ t) h x w)
         go false t = fits-as silent (if-other c f d) r m m s (sym (so-is false t))
-          (record { room = omega (arith, now .room, w .count, long); numbers = subst (λ (z : Hall). z .last ≤ 20000000) (sym (w .hall)) (now .numbers) })
+            (record { room = omega (arith, now .room, w .count, long); numbers = subst (λ (z : Hall). z .last ≤ 20000000) (sym (w .hall)) (now .numbers) })
 
     pub at-step : (m′ : Hall) (s′ : List ℕ) (r′ : ℕ) → Wrote (if-other c f d) r m m′ s s′ r′ → At (d + 1) m′ s′ r′
     unfolding all-craft
@@ -181,9 +185,9 @@ module _ (f : ℕ → Move) (up : (d : ℕ) → Grows (f d)) (lv : (d : ℕ) →
         go : (b : Bool) → other c m d ≡ b → At (d + 1) m′ s′ r′
         go true t = loop-more f (other c m₀) up d 64 n m₀ m m′ s₀ s s′ r r′ (sym (at-test d d m s r w) ∙ t) h x w (wrote-as (f d) (if-other c f d) r m m m′ s s′ r′ (sym (so-is true t)) v)
         go false t =
-          let q = loop-skip f (other c m₀) d n m₀ m s₀ s r (sym (at-test d d m s r w) ∙ t) w in
-          let o = wrote-as silent (if-other c f d) r m m m′ s s′ r′ (sym (so-is false t)) v in
-          record { hall = o .hall ∙ q .hall; slip = o .slip ∙ written-none r s ∙ q .slip; count = o .count ∙ add-zero r ∙ q .count }
+            let q = loop-skip f (other c m₀) d n m₀ m s₀ s r (sym (at-test d d m s r w) ∙ t) w in
+            let o = wrote-as silent (if-other c f d) r m m m′ s s′ r′ (sym (so-is false t)) v in
+            record { hall = o .hall ∙ q .hall; slip = o .slip ∙ written-none r s ∙ q .slip; count = o .count ∙ add-zero r ∙ q .count }
 
 -- TWO MOVES OVER THE OTHERS, the first of which leaves the craft
 
@@ -200,7 +204,7 @@ module _ (f g : ℕ → Move) (lv : (d : ℕ) → Leaves (f d)) (up : (d : ℕ) 
 
     pub both-wrote : (m₂ : Hall) (s₂ : List ℕ) (r₂ : ℕ) → Wrote (each g (others c m₁)) r m₁ m₂ s₁ s₂ r₂ → Wrote (then (each f (others c m)) (each g (others c m))) n m m₂ s s₂ r₂
     both-wrote m₂ s₂ r₂ v =
-      wrote-then (each f (others c m)) (each g (others c m)) n m m₁ m₂ s s₁ s₂ r r₂ (first-room (each f (others c m)) (each g (others c m)) n m s x) w
+        wrote-then (each f (others c m)) (each g (others c m)) n m m₁ m₂ s s₁ s₂ r r₂ (first-room (each f (others c m)) (each g (others c m)) n m s x) w
         (wrote-as (each g (others c m)) (each g (others c m₁)) r m₁ m₁ m₂ s₁ s₂ r₂ (ap (λ (ds : List ℕ). each g ds m₁) (sym same)) v)
 
 -- A LOOP WITH A TEST THAT STAYS
@@ -212,14 +216,15 @@ module _ (f : ℕ → Move) (up : (d : ℕ) → Grows (f d)) (p : ℕ → Bool) 
     where
       now : Fits (prefix f p d) n m₀ s₀
       now = fits-prefix f p up d 64 n m₀ s₀ (omega arith) x
+
       long : length s ≡ length s₀
       long = ap length (w .slip) ∙ written-length n _ s₀ (now .room)
 
   pub so-step : (b : Bool) → p d ≡ b → (m′ : Hall) (s′ : List ℕ) (r′ : ℕ) → Wrote (where-so b (f d)) r m m′ s s′ r′ → Wrote (prefix f p (d + 1)) n m₀ m′ s₀ s′ r′
   so-step true t m′ s′ r′ v = loop-more f p up d 64 n m₀ m m′ s₀ s s′ r r′ t h x w v
   so-step false t m′ s′ r′ v =
-    let q = loop-skip f p d n m₀ m s₀ s r t w in
-    record { hall = v .hall ∙ q .hall; slip = v .slip ∙ written-none r s ∙ q .slip; count = v .count ∙ add-zero r ∙ q .count }
+      let q = loop-skip f p d n m₀ m s₀ s r t w in
+      record { hall = v .hall ∙ q .hall; slip = v .slip ∙ written-none r s ∙ q .slip; count = v .count ∙ add-zero r ∙ q .count }
 
 -- THREE AXES: a move over the others on each, all of which leave the craft
 
@@ -253,6 +258,6 @@ module _ (F : Axis → List ℕ → Move) (lv : (a : Axis) (ds : List ℕ) → L
 
       pub axes-all : (m₃ : Hall) (s₃ : List ℕ) (r₃ : ℕ) → Wrote (F Z (others c m₂)) r₂ m₂ m₃ s₂ s₃ r₃ → Wrote (on-axes (λ a. F a (others c m))) n m m₃ s s₃ r₃
       axes-all m₃ s₃ r₃ w₃ =
-        wrote-then (F X (others c m)) rest n m m₁ m₃ s s₁ s₃ r₁ r₃ (first-room (F X (others c m)) rest n m s x) w₁
+          wrote-then (F X (others c m)) rest n m m₁ m₃ s s₁ s₃ r₁ r₃ (first-room (F X (others c m)) rest n m s x) w₁
           (wrote-then (F Y (others c m)) (F Z (others c m)) r₁ m₁ m₂ m₃ s₁ s₂ s₃ r₂ r₃ (first-room (F Y (others c m)) (F Z (others c m)) r₁ m₁ s₁ x₁) v₂
-            (wrote-as (F Z (others c m)) (F Z (others c m₂)) r₂ m₂ m₂ m₃ s₂ s₃ r₃ (ap (λ (ds : List ℕ). F Z ds m₂) (sym still₂)) w₃))
+          (wrote-as (F Z (others c m)) (F Z (others c m₂)) r₂ m₂ m₂ m₃ s₂ s₃ r₃ (ap (λ (ds : List ℕ). F Z ds m₂) (sym still₂)) w₃))

@@ -72,7 +72,7 @@ grant-bits-grows a c k ds = grows-each (λ d. grant-bit a c d k) (λ _. true) (g
 pub enter-grows : (c : ℕ) (b : Box) (k : Stamp) → Grows (enter c b k)
 enter-grows c b k m =
     grows-then (on-axes (λ a. each (enter-bit a c k) (others c m))) (grant-leg c k)
-        (grows-axes (λ a. each (enter-bit a c k) (others c m)) (λ a. enter-bits-grows a c k (others c m))) (grant-leg-grows c k) (read-leg c b k m)
+    (grows-axes (λ a. each (enter-bit a c k) (others c m)) (λ a. enter-bits-grows a c k (others c m))) (grant-leg-grows c k) (read-leg c b k m)
 
 pub leave-grows : (c : ℕ) → Grows (leave c)
 leave-grows c m =

@@ -48,41 +48,47 @@ pub wrote-silent : (f : Move) (n : ℕ) (m : Hall) (s : List ℕ) → f m ≡ si
 wrote-silent f n m s e = record {
   hall = sym (ap (λ (o : Out). o .hall) e);
   slip = sym (ap (λ (o : Out). written n (o .lines) s) e ∙ written-none n s);
-  count = sym (ap (λ (o : Out). n + length (o .lines)) e ∙ add-zero n) }
+  count = sym (ap (λ (o : Out). n + length (o .lines)) e ∙ add-zero n);
+}
 
 -- f does at m what g does at m₁
 pub wrote-as : (f g : Move) (n : ℕ) (m m₁ m′ : Hall) (s s′ : List ℕ) (r : ℕ) → f m ≡ g m₁ → Wrote g n m₁ m′ s s′ r → Wrote f n m m′ s s′ r
 wrote-as f g n m m₁ m′ s s′ r e w = record {
   hall = w .hall ∙ sym (ap (λ (o : Out). o .hall) e);
   slip = w .slip ∙ sym (ap (λ (o : Out). written n (o .lines) s) e);
-  count = w .count ∙ sym (ap (λ (o : Out). n + length (o .lines)) e) }
+  count = w .count ∙ sym (ap (λ (o : Out). n + length (o .lines)) e);
+}
 
 pub fits-as : (f g : Move) (n : ℕ) (m m₁ : Hall) (s : List ℕ) → f m ≡ g m₁ → Fits f n m s → Fits g n m₁ s
 fits-as f g n m m₁ s e x = record {
   room = subst (λ (o : Out). n + length (o .lines) ≤ length s) e (x .room);
-  numbers = subst (λ (o : Out). o .hall .last ≤ 20000000) e (x .numbers) }
+  numbers = subst (λ (o : Out). o .hall .last ≤ 20000000) e (x .numbers);
+}
 
 pub wrote-then : (f g : Move) (n : ℕ) (m m₁ m₂ : Hall) (s s₁ s₂ : List ℕ) (r₁ r₂ : ℕ) → n + length (f m .lines) ≤ length s → Wrote f n m m₁ s s₁ r₁ → Wrote g r₁ m₁ m₂ s₁ s₂ r₂ → Wrote (then f g) n m m₂ s s₂ r₂
 wrote-then f g n m m₁ m₂ s s₁ s₂ r₁ r₂ h p q =
-  let e = p .hall in
-  record {
-    hall = q .hall ∙ ap (λ (x : Hall). g x .hall) e;
-    slip = q .slip ∙ ap (λ (x : Hall). written r₁ (g x .lines) s₁) e ∙ ap (λ (k : ℕ). written k (g (f m .hall) .lines) s₁) (p .count) ∙ ap (written (n + length (f m .lines)) (g (f m .hall) .lines)) (p .slip) ∙ written-then n (f m .lines) (g (f m .hall) .lines) s h;
-    count = q .count ∙ ap (λ (x : Hall). r₁ + length (g x .lines)) e ∙ ap (λ (k : ℕ). k + length (g (f m .hall) .lines)) (p .count) ∙ add-assoc n _ _ ∙ ap (λ (k : ℕ). n + k) (sym (length-append (f m .lines) _)) }
+    let e = p .hall in
+    record {
+      hall = q .hall ∙ ap (λ (x : Hall). g x .hall) e;
+      slip = q .slip ∙ ap (λ (x : Hall). written r₁ (g x .lines) s₁) e ∙ ap (λ (k : ℕ). written k (g (f m .hall) .lines) s₁) (p .count) ∙ ap (written (n + length (f m .lines)) (g (f m .hall) .lines)) (p .slip) ∙ written-then n (f m .lines) (g (f m .hall) .lines) s h;
+      count = q .count ∙ ap (λ (x : Hall). r₁ + length (g x .lines)) e ∙ ap (λ (k : ℕ). k + length (g (f m .hall) .lines)) (p .count) ∙ add-assoc n _ _ ∙ ap (λ (k : ℕ). n + k) (sym (length-append (f m .lines) _));
+    }
 
 -- what fits a move after another fits each of them in its turn
 pub fits-first : (f g : Move) (n : ℕ) (m : Hall) (s : List ℕ) → Grows g → Fits (then f g) n m s → Fits f n m s
 fits-first f g n m s up x = record {
   room = omega (arith, x .room, length-append (f m .lines) (g (f m .hall) .lines));
-  numbers = omega (arith, x .numbers, up (f m .hall)) }
+  numbers = omega (arith, x .numbers, up (f m .hall));
+}
 
 pub fits-second : (f g : Move) (n : ℕ) (m m₁ : Hall) (s s₁ : List ℕ) (r : ℕ) → Fits (then f g) n m s → Wrote f n m m₁ s s₁ r → Fits g r m₁ s₁
 fits-second f g n m m₁ s s₁ r x w =
-  let long : n + length (f m .lines) ≤ length s = omega (arith, x .room, length-append (f m .lines) (g (f m .hall) .lines)) in
-  let l : length s₁ ≡ length s = ap length (w .slip) ∙ written-length n (f m .lines) s long in
-  record {
-    room = subst (λ (h : Hall). r + length (g h .lines) ≤ length s₁) (sym (w .hall)) (omega (arith, x .room, length-append (f m .lines) (g (f m .hall) .lines), w .count, l));
-    numbers = subst (λ (h : Hall). g h .hall .last ≤ 20000000) (sym (w .hall)) (x .numbers) }
+    let long : n + length (f m .lines) ≤ length s = omega (arith, x .room, length-append (f m .lines) (g (f m .hall) .lines)) in
+    let l : length s₁ ≡ length s = ap length (w .slip) ∙ written-length n (f m .lines) s long in
+    record {
+      room = subst (λ (h : Hall). r + length (g h .lines) ≤ length s₁) (sym (w .hall)) (omega (arith, x .room, length-append (f m .lines) (g (f m .hall) .lines), w .count, l));
+      numbers = subst (λ (h : Hall). g h .hall .last ≤ 20000000) (sym (w .hall)) (x .numbers);
+    }
 
 pub first-room : (f g : Move) (n : ℕ) (m : Hall) (s : List ℕ) → Fits (then f g) n m s → n + length (f m .lines) ≤ length s
 first-room f g n m s x = omega (arith, x .room, length-append (f m .lines) (g (f m .hall) .lines))

@@ -60,4 +60,4 @@ regrant a c k d = grant-bit a c d k
 
 abbrev pub Moves-compose : Type 0
 Moves-compose = (f g : Move) (n : ℕ) (m m₁ m₂ : Hall) (s s₁ s₂ : List ℕ) (r₁ r₂ : ℕ) →
-  n + length (f m .lines) ≤ length s → Wrote f n m m₁ s s₁ r₁ → Wrote g r₁ m₁ m₂ s₁ s₂ r₂ → Wrote (then f g) n m m₂ s s₂ r₂
+    n + length (f m .lines) ≤ length s → Wrote f n m m₁ s s₁ r₁ → Wrote g r₁ m₁ m₂ s₁ s₂ r₂ → Wrote (then f g) n m m₂ s s₂ r₂

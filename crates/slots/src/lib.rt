@@ -9,7 +9,6 @@ ghost use Rattle.times.specs.Of.{time-of};
 ghost use Rattle.model.specs.Halls.{due-by};
 ghost use Rattle.model.specs.Moves.{granted, at-break, lower-of, higher-of, axis-of as slot-axis};
 ghost use Rattle.slots.specs.Lines.{line-of};
-
 use geometry::Axis;
 use times::Moment;
 use times::Time;
@@ -112,5 +111,9 @@ pub fn not_after(goal: Time, first: Option<(u16, Moment)>) -> Option<(u16, Momen
     ensures { λ r. ⌜ first-told r ≡ due-by (time-of goal) (first-told first) ⌝ }
 {
     let (slot, moment) = first?;
-    if Moment::at(goal).before(moment) { None } else { Some((slot, moment)) }
+    if Moment::at(goal).before(moment) {
+        None
+    } else {
+        Some((slot, moment))
+    }
 }

@@ -41,13 +41,14 @@ placed f xs i v d h = fun-ext go
             both (yes a) b = no λ e. omega arith
             both (no a) (yes b) = no λ e. omega arith
             both (no a) (no b) = yes (omega arith)
+
         pick : Dec (k ≡ i) → f (getD (set xs i v) k d) ≡ put (λ k. f (getD xs k d)) i (f v) k
         pick (yes e) = rw (e, eq-eqb i i refl) (ap f (getD-set-same xs i v d h))
         pick (no n) = rw (ne-eqb k i n) (ap f (getD-set-other xs i k v d n))
 
 pub granted-set : (xs : List ℕ) (i n last : ℕ) → i < length xs → n ≤ last → Granted xs last → Granted (set xs i n) last
 granted-set xs i n last h l g k =
-  subst (λ (v : ℕ). v ≤ last) (sym (ap (λ (f : ℕ → ℕ). f k) (placed (λ (x : ℕ). x) xs i n 0 h)))
+    subst (λ (v : ℕ). v ≤ last) (sym (ap (λ (f : ℕ → ℕ). f k) (placed (λ (x : ℕ). x) xs i n 0 h)))
     (elim (eqb k i) as (λ t. cond t n (getD xs k 0) ≤ last) [ true ↦ l | false ↦ g k ])
 
 pub granted-up : (xs : List ℕ) (last more : ℕ) → last ≤ more → Granted xs last → Granted xs more
@@ -66,7 +67,7 @@ pub table-none : {A B : Type 0} (f : A → B) (n : ℕ) (d : A) → _≡_ {A = �
 table-none f n d = fun-ext (λ k. ap f (getD-same n d k))
 
 pub empty-is : (craft : ℕ → Option Craft) (bits : ℕ → Bool) (numbers : ℕ → ℕ) → craft ≡ (λ _. None) → bits ≡ (λ _. false) → numbers ≡ (λ _. 0) →
-  _≡_ {A = Table} (record { craft = craft; bit = bits; number = numbers; last = 0 }) empty
+    _≡_ {A = Table} (record { craft = craft; bit = bits; number = numbers; last = 0 }) empty
 empty-is craft bits numbers e f g = rw (e, f, g) refl
 
 -- craft changed at c

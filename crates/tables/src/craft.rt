@@ -6,7 +6,6 @@ ghost use Rattle.plans.specs.Lines.{line-of};
 ghost use Rattle.plans.specs.Routes.{answer-of};
 ghost use Rattle.tables.specs.Crafts.{record-of, record-in, with-legs, turned, sized, Sized};
 ghost use Rattle.model.specs.Moves.{nobody};
-
 use geometry::Axis;
 use geometry::HalfSizes;
 use plans::LegAnswer;
@@ -39,7 +38,12 @@ impl CraftRecord {
         ensures value { λ r. ⌜ record-of r ≡ nobody ⌝ }
         ensures sized { λ r. ⌜ sized r ≡ true ⌝ }
     {
-        CraftRecord { half: (1, 1, 1), x: (0, 0), y: (0, 0), z: (0, 0) }
+        CraftRecord {
+            half: (1, 1, 1),
+            x: (0, 0),
+            y: (0, 0),
+            z: (0, 0),
+        }
     }
 
     /// The half sizes. It is public for the crate above, whose tables keep records in range.

@@ -4,7 +4,6 @@ ghost use Prim.Native.Nat.{_≤_};
 ghost use lib.ListN.{length};
 ghost use Rattle.tables.specs.Crafts.{AllSized};
 ghost use Rattle.tables.specs.Tables.{Granted};
-
 use crate::craft::CraftRecord;
 
 mod edits;

@@ -7,16 +7,15 @@ ghost use Rattle.model.specs.Halls.{others};
 ghost use Rattle.model.specs.Moves.{each, ends-of, grant-bit, enter-bit, drop-bit, renew};
 ghost use Rattle.floor_laws.specs.Writing.{Wrote, Fits, other, if-other, withdraw, regrant};
 ghost use Rattle.floor.specs.Of.{hall-of};
-
 use crate::floor::Floor;
-use slots::Taken;
-use slots::slot_of;
 use books::FlightBook;
 use geometry::Axis;
 use geometry::Span;
 use geometry::first_wrong;
 use geometry::overlaps;
 use queues::EventQueue;
+use slots::Taken;
+use slots::slot_of;
 use times::Moment;
 
 impl<B: FlightBook, Q: EventQueue> Floor<B, Q> {
@@ -30,7 +29,15 @@ impl<B: FlightBook, Q: EventQueue> Floor<B, Q> {
     }
 
     /// Grants the certificate of two craft's bit on an axis: it fails when the bit is wrong on their present legs.
-    pub(super) fn grant_bit(&mut self, axis: Axis, c: u8, d: u8, k: Moment, slip: &mut [u32], n: usize) -> usize
+    pub(super) fn grant_bit(
+        &mut self,
+        axis: Axis,
+        c: u8,
+        d: u8,
+        k: Moment,
+        slip: &mut [u32],
+        n: usize,
+    ) -> usize
         requires c { ⌜ c < 64 ⌝ }
         requires d { ⌜ d < 64 ⌝ }
         requires fits { ⌜ Fits (grant-bit (axis-of axis) c d (moment-of k)) n (hall-of meaning holds (now self)) (now slip) ⌝ }
@@ -43,7 +50,15 @@ impl<B: FlightBook, Q: EventQueue> Floor<B, Q> {
     }
 
     /// Sets two craft's bit on an axis as it is at the moment, and grants its certificate.
-    fn enter_bit(&mut self, axis: Axis, c: u8, k: Moment, d: u8, slip: &mut [u32], n: usize) -> usize
+    fn enter_bit(
+        &mut self,
+        axis: Axis,
+        c: u8,
+        k: Moment,
+        d: u8,
+        slip: &mut [u32],
+        n: usize,
+    ) -> usize
         requires c { ⌜ c < 64 ⌝ }
         requires d { ⌜ d < 64 ⌝ }
         requires fits { ⌜ Fits (enter-bit (axis-of axis) c (moment-of k) d) n (hall-of meaning holds (now self)) (now slip) ⌝ }
@@ -85,7 +100,15 @@ impl<B: FlightBook, Q: EventQueue> Floor<B, Q> {
     }
 
     /// The bit of c with d, where d is another entered craft.
-    fn enter_other(&mut self, axis: Axis, c: u8, k: Moment, d: u8, slip: &mut [u32], n: usize) -> usize
+    fn enter_other(
+        &mut self,
+        axis: Axis,
+        c: u8,
+        k: Moment,
+        d: u8,
+        slip: &mut [u32],
+        n: usize,
+    ) -> usize
         requires c { ⌜ c < 64 ⌝ }
         requires d { ⌜ d < 64 ⌝ }
         requires fits { ⌜ Fits (if-other c (enter-bit (axis-of axis) c (moment-of k)) d) n (hall-of meaning holds (now self)) (now slip) ⌝ }
@@ -98,7 +121,14 @@ impl<B: FlightBook, Q: EventQueue> Floor<B, Q> {
     }
 
     /// On an axis, the bits of a craft with every other entered craft, ascending.
-    pub(super) fn enter_bits(&mut self, axis: Axis, c: u8, k: Moment, slip: &mut [u32], n: usize) -> usize
+    pub(super) fn enter_bits(
+        &mut self,
+        axis: Axis,
+        c: u8,
+        k: Moment,
+        slip: &mut [u32],
+        n: usize,
+    ) -> usize
         requires c { ⌜ c < 64 ⌝ }
         requires fits { ⌜ Fits (each (enter-bit (axis-of axis) c (moment-of k)) (others c (hall-of meaning holds (now self)))) n (hall-of meaning holds (now self)) (now slip) ⌝ }
         ensures { λ r. ⌜ Wrote (each (enter-bit (axis-of axis) c (moment-of k)) (others c (hall-of meaning holds (now (self .entry))))) n (hall-of meaning holds (now (self .entry))) (hall-of meaning holds (now (self .exit))) (now (slip .entry)) (now (slip .exit)) r ⌝ }
@@ -163,7 +193,15 @@ impl<B: FlightBook, Q: EventQueue> Floor<B, Q> {
     }
 
     /// Grants the certificate of c with d, where d is another entered craft.
-    fn grant_other(&mut self, axis: Axis, c: u8, k: Moment, d: u8, slip: &mut [u32], n: usize) -> usize
+    fn grant_other(
+        &mut self,
+        axis: Axis,
+        c: u8,
+        k: Moment,
+        d: u8,
+        slip: &mut [u32],
+        n: usize,
+    ) -> usize
         requires c { ⌜ c < 64 ⌝ }
         requires d { ⌜ d < 64 ⌝ }
         requires fits { ⌜ Fits (if-other c (regrant (axis-of axis) c (moment-of k)) d) n (hall-of meaning holds (now self)) (now slip) ⌝ }
@@ -189,7 +227,14 @@ impl<B: FlightBook, Q: EventQueue> Floor<B, Q> {
     }
 
     /// On an axis, all of a craft's certificates are withdrawn, then granted anew.
-    pub(super) fn renew(&mut self, axis: Axis, c: u8, k: Moment, slip: &mut [u32], n: usize) -> usize
+    pub(super) fn renew(
+        &mut self,
+        axis: Axis,
+        c: u8,
+        k: Moment,
+        slip: &mut [u32],
+        n: usize,
+    ) -> usize
         requires c { ⌜ c < 64 ⌝ }
         requires fits { ⌜ Fits (renew c (others c (hall-of meaning holds (now self))) (moment-of k) (axis-of axis)) n (hall-of meaning holds (now self)) (now slip) ⌝ }
         ensures { λ r. ⌜ Wrote (renew c (others c (hall-of meaning holds (now (self .entry)))) (moment-of k) (axis-of axis)) n (hall-of meaning holds (now (self .entry))) (hall-of meaning holds (now (self .exit))) (now (slip .entry)) (now (slip .exit)) r ⌝ }

@@ -14,7 +14,6 @@ ghost use Rattle.floor_laws.specs.Writing.{Wrote, Fits, where-so};
 ghost use Rattle.floor_laws.proofs.Loops.{prefix};
 ghost use Rattle.floor.specs.Of.{hall-of};
 ghost use Rattle.floor.specs.Saved.{follower-of, Saved, is-saved, saved-box, box-in};
-
 use crate::floor::Floor;
 use books::FlightBook;
 use plans::Plan;
@@ -71,7 +70,14 @@ impl<B: FlightBook, Q: EventQueue> Floor<B, Q> {
     }
 
     /// A craft enters again with the box of its record, where that is saved.
-    fn enter_if(&mut self, kept: Option<CraftRecord>, d: u8, k: Moment, slip: &mut [u32], n: usize) -> usize
+    fn enter_if(
+        &mut self,
+        kept: Option<CraftRecord>,
+        d: u8,
+        k: Moment,
+        slip: &mut [u32],
+        n: usize,
+    ) -> usize
         requires d { ⌜ d < 64 ⌝ }
         requires sized { ⌜ Sized kept ⌝ }
         requires fits { ⌜ Fits (where-so (isSome kept) (enter d (box-in kept) (moment-of k))) n (hall-of meaning holds (now self)) (now slip) ⌝ }
@@ -84,7 +90,13 @@ impl<B: FlightBook, Q: EventQueue> Floor<B, Q> {
     }
 
     /// The craft whose records are saved enter again, ascending.
-    fn enter_all(&mut self, saved: &[Option<CraftRecord>; 64], k: Moment, slip: &mut [u32], n: usize) -> usize
+    fn enter_all(
+        &mut self,
+        saved: &[Option<CraftRecord>; 64],
+        k: Moment,
+        slip: &mut [u32],
+        n: usize,
+    ) -> usize
         requires sized { ⌜ AllSized (now saved) ⌝ }
         requires fits { ⌜ Fits (prefix (λ d. enter d (saved-box (now saved) d) (moment-of k)) (is-saved (now saved)) 64) n (hall-of meaning holds (now self)) (now slip) ⌝ }
         ensures { λ r. ⌜ Wrote (prefix (λ d. enter d (saved-box (now (saved .entry)) d) (moment-of k)) (is-saved (now (saved .entry))) 64) n (hall-of meaning holds (now (self .entry))) (hall-of meaning holds (now (self .exit))) (now (slip .entry)) (now (slip .exit)) r ⌝ }
@@ -109,7 +121,15 @@ impl<B: FlightBook, Q: EventQueue> Floor<B, Q> {
     }
 
     /// A seat is set or emptied: the entered craft that follow the one seated leave, the book changes, and they enter again.
-    pub fn ride(&mut self, c: u8, level: u8, carrier: Option<u8>, k: Moment, slip: &mut [u32], n: usize) -> usize
+    pub fn ride(
+        &mut self,
+        c: u8,
+        level: u8,
+        carrier: Option<u8>,
+        k: Moment,
+        slip: &mut [u32],
+        n: usize,
+    ) -> usize
         requires c { ⌜ c < 64 ⌝ }
         requires fits { ⌜ Fits (change (seating c level carrier) (moment-of k)) n (hall-of meaning holds (now self)) (now slip) ⌝ }
         ensures { λ r. ⌜ Wrote (change (seating c level carrier) (moment-of k)) n (hall-of meaning holds (now (self .entry))) (hall-of meaning holds (now (self .exit))) (now (slip .entry)) (now (slip .exit)) r ⌝ }

@@ -10,18 +10,17 @@ ghost use Rattle.model.specs.Moves.{on-axes, at-break, grant, enter, leave, fir
 ghost use Rattle.floor_laws.specs.Writing.{Wrote, Fits};
 ghost use Rattle.floor_laws.specs.Reading.{enters, drops, renews, reading};
 ghost use Rattle.floor.specs.Of.{hall-of};
-
 use crate::floor::Floor;
+use books::FlightBook;
+use geometry::Axis;
+use geometry::HalfSizes;
+use queues::EventQueue;
 use slots::Taken;
 use slots::axis_at;
 use slots::break_moment;
 use slots::higher_at;
 use slots::leg_slot_of;
 use slots::lower_at;
-use books::FlightBook;
-use geometry::Axis;
-use geometry::HalfSizes;
-use queues::EventQueue;
 use tables::CraftRecord;
 use times::Moment;
 
@@ -70,7 +69,14 @@ impl<B: FlightBook, Q: EventQueue> Floor<B, Q> {
     }
 
     /// What an entering grants once its leg is read: the bits' certificates, then the leg's.
-    fn enter_read(&mut self, c: u8, next: Option<u16>, k: Moment, slip: &mut [u32], n: usize) -> usize
+    fn enter_read(
+        &mut self,
+        c: u8,
+        next: Option<u16>,
+        k: Moment,
+        slip: &mut [u32],
+        n: usize,
+    ) -> usize
         requires c { ⌜ c < 64 ⌝ }
         requires tick { ⌜ BySome next (0 ≤ 0) (λ i. i ≤ 50000) ⌝ }
         requires fits { ⌜ Fits (reading (enters c (moment-of k)) c next) n (hall-of meaning holds (now self)) (now slip) ⌝ }
@@ -81,7 +87,14 @@ impl<B: FlightBook, Q: EventQueue> Floor<B, Q> {
     }
 
     /// What a leg firing grants once the leg is read anew.
-    fn renew_read(&mut self, c: u8, next: Option<u16>, k: Moment, slip: &mut [u32], n: usize) -> usize
+    fn renew_read(
+        &mut self,
+        c: u8,
+        next: Option<u16>,
+        k: Moment,
+        slip: &mut [u32],
+        n: usize,
+    ) -> usize
         requires c { ⌜ c < 64 ⌝ }
         requires tick { ⌜ BySome next (0 ≤ 0) (λ i. i ≤ 50000) ⌝ }
         requires fits { ⌜ Fits (reading (renews c (moment-of k)) c next) n (hall-of meaning holds (now self)) (now slip) ⌝ }
@@ -100,7 +113,8 @@ impl<B: FlightBook, Q: EventQueue> Floor<B, Q> {
         let Ok(legs) = self.book.leg(c, k.time) else {
             return n;
         };
-        self.tables.set_craft(c as usize, Some(CraftRecord::new(half, legs)));
+        self.tables
+            .set_craft(c as usize, Some(CraftRecord::new(half, legs)));
         self.enter_read(c, legs.next, k, slip, n)
     }
 

@@ -10,14 +10,13 @@ ghost use Rattle.books.specs.Told.{leg-told, leg-answer, follow-told, follow-an
 ghost use Rattle.tables.specs.Tables.{empty};
 ghost use Rattle.model.specs.Halls.{in-hall, together, left, certificate-in, next-due};
 ghost use Rattle.floor.specs.Of.{joined, hall-of, certificate-told};
-
 use crate::floor::Floor;
-use slots::not_after;
-use slots::slot_of;
 use books::FlightBook;
 use geometry::Axis;
 use plans::LegAnswer;
 use queues::EventQueue;
+use slots::not_after;
+use slots::slot_of;
 use tables::Tables;
 use times::Moment;
 use times::Refusal;
@@ -28,7 +27,11 @@ impl<B: FlightBook, Q: EventQueue> Floor<B, Q> {
     pub fn new(book: B, queue: Q) -> Floor<B, Q>
         ensures { λ r. ⌜ hall-of meaning holds r ≡ joined (meaning book) (holds queue) empty ⌝ }
     {
-        Floor { book, queue, tables: Tables::new() }
+        Floor {
+            book,
+            queue,
+            tables: Tables::new(),
+        }
     }
 
     /// Whether a craft is entered.

@@ -5,7 +5,6 @@ ghost use Rattle.plans.specs.Routes.{answer-of};
 ghost use Rattle.tables.specs.Crafts.{record-in, turned, Sized};
 ghost use Rattle.tables.specs.Tables.{empty, put-craft, put-bit, put-number};
 ghost use Rattle.tables.specs.Of.{table};
-
 use crate::craft::CraftRecord;
 use crate::craft::turn_place;
 use crate::tables::Tables;

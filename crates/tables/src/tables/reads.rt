@@ -7,7 +7,6 @@ ghost use Rattle.rules.specs.Basics.{the};
 ghost use Rattle.model.specs.Moves.{nobody};
 ghost use Rattle.tables.specs.Crafts.{record-of, record-in, sized, Sized};
 ghost use Rattle.tables.specs.Of.{table};
-
 use crate::craft::CraftRecord;
 use crate::tables::Tables;
 

@@ -12,7 +12,8 @@ pub drop-other-end-requires : need.drop-other-end-requires
 drop-other-end-requires g c κs = record {
   c = c .pre .c;
   d = c .loop-d-test .taken;
-  fits = at-room (drop-bit (axis-of (c .args .axis)) (c .args .c)) (drop-bit-grows (axis-of (c .args .axis)) (c .args .c)) (drop-bit-leaves (axis-of (c .args .axis)) (c .args .c)) (c .args .c) (c .args .n) _ _ (c .pre .fits) (c .loop-d .d) (c .loop-d-test .taken) _ _ _ (c .loop-d .inv) }
+  fits = at-room (drop-bit (axis-of (c .args .axis)) (c .args .c)) (drop-bit-grows (axis-of (c .args .axis)) (c .args .c)) (drop-bit-leaves (axis-of (c .args .axis)) (c .args .c)) (c .args .c) (c .args .n) _ _ (c .pre .fits) (c .loop-d .d) (c .loop-d-test .taken) _ _ _ (c .loop-d .inv);
+}
 
 pub loop-d-again : need.loop-d-again
 loop-d-again g c = at-step (drop-bit (axis-of (c .args .axis)) (c .args .c)) (drop-bit-grows (axis-of (c .args .axis)) (c .args .c)) (drop-bit-leaves (axis-of (c .args .axis)) (c .args .c)) (c .args .c) (c .args .n) _ _ (c .pre .fits) (c .loop-d .d) (c .loop-d-test .taken) _ _ _ (c .loop-d .inv) _ _ _ (c .drop-other-end .ensures)

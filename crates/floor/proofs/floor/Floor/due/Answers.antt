@@ -10,4 +10,5 @@ returns g c =
     let h : Held (g .Q·EventQueue .holds q) = record { within = g .Q·EventQueue·met .within q; proper = λ k m e. g .Q·EventQueue·met .usual q k m e .proper } in
     record {
       value = due-is (g .Q·EventQueue .holds q) (time-of (c .args .goal)) (c .first .result) (c .not-after .result) (c .first .ensures) (c .not-after .ensures);
-      below = due-below (g .Q·EventQueue .holds q) h (time-of (c .args .goal)) (c .first .result) (c .not-after .result) (c .first .ensures) (c .not-after .ensures) }
+      below = due-below (g .Q·EventQueue .holds q) h (time-of (c .args .goal)) (c .first .result) (c .not-after .result) (c .first .ensures) (c .not-after .ensures);
+    }

@@ -19,7 +19,8 @@ pub enter-if-end-requires : need.enter-if-end-requires
 enter-if-end-requires g c κs = record {
   d = c .loop-d-test .taken;
   sized = λ r e. c .pre .sized (c .loop-d .d) r e;
-  fits = so-room (λ d. enter d (saved-box (c .args .saved .now) d) (moment-of (c .args .k))) (λ d. enter-grows d (saved-box (c .args .saved .now) d) (moment-of (c .args .k))) (is-saved (c .args .saved .now)) (c .args .n) _ _ (c .pre .fits) (c .loop-d .d) (c .loop-d-test .taken) _ _ _ (c .loop-d .inv) (is-saved (c .args .saved .now) (c .loop-d .d)) refl }
+  fits = so-room (λ d. enter d (saved-box (c .args .saved .now) d) (moment-of (c .args .k))) (λ d. enter-grows d (saved-box (c .args .saved .now) d) (moment-of (c .args .k))) (is-saved (c .args .saved .now)) (c .args .n) _ _ (c .pre .fits) (c .loop-d .d) (c .loop-d-test .taken) _ _ _ (c .loop-d .inv) (is-saved (c .args .saved .now) (c .loop-d .d)) refl;
+}
 
 pub loop-d-again : need.loop-d-again
 loop-d-again g c = so-step (λ d. enter d (saved-box (c .args .saved .now) d) (moment-of (c .args .k))) (λ d. enter-grows d (saved-box (c .args .saved .now) d) (moment-of (c .args .k))) (is-saved (c .args .saved .now)) (c .args .n) _ _ (c .pre .fits) (c .loop-d .d) (c .loop-d-test .taken) _ _ _ (c .loop-d .inv) (is-saved (c .args .saved .now) (c .loop-d .d)) refl _ _ _ (c .enter-if-end .ensures)

@@ -13,7 +13,8 @@ pub enter-other-end-requires : need.enter-other-end-requires
 enter-other-end-requires g c κs = record {
   c = c .pre .c;
   d = c .loop-d-test .taken;
-  fits = at-room (enter-bit (axis-of (c .args .axis)) (c .args .c) (moment-of (c .args .k))) (enter-bit-grows (axis-of (c .args .axis)) (c .args .c) (moment-of (c .args .k))) (enter-bit-leaves (axis-of (c .args .axis)) (c .args .c) (moment-of (c .args .k))) (c .args .c) (c .args .n) _ _ (c .pre .fits) (c .loop-d .d) (c .loop-d-test .taken) _ _ _ (c .loop-d .inv) }
+  fits = at-room (enter-bit (axis-of (c .args .axis)) (c .args .c) (moment-of (c .args .k))) (enter-bit-grows (axis-of (c .args .axis)) (c .args .c) (moment-of (c .args .k))) (enter-bit-leaves (axis-of (c .args .axis)) (c .args .c) (moment-of (c .args .k))) (c .args .c) (c .args .n) _ _ (c .pre .fits) (c .loop-d .d) (c .loop-d-test .taken) _ _ _ (c .loop-d .inv);
+}
 
 pub loop-d-again : need.loop-d-again
 loop-d-again g c = at-step (enter-bit (axis-of (c .args .axis)) (c .args .c) (moment-of (c .args .k))) (enter-bit-grows (axis-of (c .args .axis)) (c .args .c) (moment-of (c .args .k))) (enter-bit-leaves (axis-of (c .args .axis)) (c .args .c) (moment-of (c .args .k))) (c .args .c) (c .args .n) _ _ (c .pre .fits) (c .loop-d .d) (c .loop-d-test .taken) _ _ _ (c .loop-d .inv) _ _ _ (c .enter-other-end .ensures)

@@ -8,5 +8,5 @@ use Rattle.floor.proofs.floor.Floor.enter_bits.Given as given
 
 abbrev pub Inv-loop-d : given.InvT-loop-d
 Inv-loop-d g l =
-  let m = hall-of (g .B·FlightBook .meaning) (g .Q·EventQueue .holds) in
-  Wrote (prefix (enter-bit (axis-of (l .axis)) (l .c) (moment-of (l .k))) (other (l .c) (m (l .entry .self))) (l .d)) (l .n) (m (l .entry .self)) (m (l .self)) (l .entry .slip) (l .slip) (l .end)
+    let m = hall-of (g .B·FlightBook .meaning) (g .Q·EventQueue .holds) in
+    Wrote (prefix (enter-bit (axis-of (l .axis)) (l .c) (moment-of (l .k))) (other (l .c) (m (l .entry .self))) (l .d)) (l .n) (m (l .entry .self)) (m (l .self)) (l .entry .slip) (l .slip) (l .end)

@@ -16,7 +16,8 @@ pub renew-read-requires : need.renew-read-requires
 renew-read-requires g c κs = record {
   c = c .pre .c;
   tick = break-soon (g .B·FlightBook .meaning (c .args .self .now .book)) (c .args .c) (time-of (c .args .k .time)) (c .in-Ok .legs .next) (g .B·FlightBook·met .lawful (c .args .self .now .book)) (ap (λ (x : (Axis → Line) × Option ℕ). x .1) (leg-is (g .B·FlightBook .meaning (c .args .self .now .book)) (c .args .c) (time-of (c .args .k .time)) (c .pre .c) (answer-of (c .in-Ok .legs)) (c .in-Ok .ensures tt)));
-  fits = leg-fits (c .args .c) (c .args .n) (moment-of (c .args .k)) (c .in-Ok .legs .next) _ _ _ (read-firing _ _ _ _ (c .args .c) (moment-of (c .args .k)) (craft-of (c .args .c) (hall-of (g .B·FlightBook .meaning) (g .Q·EventQueue .holds) (c .args .self .now)) .box) _ (ap (λ (x : (Axis → Line) × Option ℕ). x .0) (leg-is (g .B·FlightBook .meaning (c .args .self .now .book)) (c .args .c) (time-of (c .args .k .time)) (c .pre .c) (answer-of (c .in-Ok .legs)) (c .in-Ok .ensures tt))) refl (c .turn .ensures)) (ap (λ (x : (Axis → Line) × Option ℕ). x .1) (leg-is (g .B·FlightBook .meaning (c .args .self .now .book)) (c .args .c) (time-of (c .args .k .time)) (c .pre .c) (answer-of (c .in-Ok .legs)) (c .in-Ok .ensures tt))) (c .pre .fits) }
+  fits = leg-fits (c .args .c) (c .args .n) (moment-of (c .args .k)) (c .in-Ok .legs .next) _ _ _ (read-firing _ _ _ _ (c .args .c) (moment-of (c .args .k)) (craft-of (c .args .c) (hall-of (g .B·FlightBook .meaning) (g .Q·EventQueue .holds) (c .args .self .now)) .box) _ (ap (λ (x : (Axis → Line) × Option ℕ). x .0) (leg-is (g .B·FlightBook .meaning (c .args .self .now .book)) (c .args .c) (time-of (c .args .k .time)) (c .pre .c) (answer-of (c .in-Ok .legs)) (c .in-Ok .ensures tt))) refl (c .turn .ensures)) (ap (λ (x : (Axis → Line) × Option ℕ). x .1) (leg-is (g .B·FlightBook .meaning (c .args .self .now .book)) (c .args .c) (time-of (c .args .k .time)) (c .pre .c) (answer-of (c .in-Ok .legs)) (c .in-Ok .ensures tt))) (c .pre .fits);
+}
 
 pub returns-in-rest : need.returns-in-rest
 returns-in-rest g c = absurd (no-refusal (g .B·FlightBook .meaning (c .args .self .now .book)) (c .args .c) (time-of (c .args .k .time)) (c .pre .c) _ (c .in-rest .ensures tt))

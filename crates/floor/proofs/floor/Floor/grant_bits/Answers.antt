@@ -13,7 +13,8 @@ pub grant-other-end-requires : need.grant-other-end-requires
 grant-other-end-requires g c κs = record {
   c = c .pre .c;
   d = c .loop-d-test .taken;
-  fits = at-room (regrant (axis-of (c .args .axis)) (c .args .c) (moment-of (c .args .k))) (grant-bit-grows (axis-of (c .args .axis)) (c .args .c) (moment-of (c .args .k))) (grant-bit-leaves (axis-of (c .args .axis)) (c .args .c) (moment-of (c .args .k))) (c .args .c) (c .args .n) _ _ (c .pre .fits) (c .loop-d .d) (c .loop-d-test .taken) _ _ _ (c .loop-d .inv) }
+  fits = at-room (regrant (axis-of (c .args .axis)) (c .args .c) (moment-of (c .args .k))) (grant-bit-grows (axis-of (c .args .axis)) (c .args .c) (moment-of (c .args .k))) (grant-bit-leaves (axis-of (c .args .axis)) (c .args .c) (moment-of (c .args .k))) (c .args .c) (c .args .n) _ _ (c .pre .fits) (c .loop-d .d) (c .loop-d-test .taken) _ _ _ (c .loop-d .inv);
+}
 
 pub loop-d-again : need.loop-d-again
 loop-d-again g c = at-step (regrant (axis-of (c .args .axis)) (c .args .c) (moment-of (c .args .k))) (grant-bit-grows (axis-of (c .args .axis)) (c .args .c) (moment-of (c .args .k))) (grant-bit-leaves (axis-of (c .args .axis)) (c .args .c) (moment-of (c .args .k))) (c .args .c) (c .args .n) _ _ (c .pre .fits) (c .loop-d .d) (c .loop-d-test .taken) _ _ _ (c .loop-d .inv) _ _ _ (c .grant-other-end .ensures)

@@ -8,13 +8,15 @@ use Rattle.floor.proofs.floor.Floor.renew.Needs as need
 pub withdraw-bits-end-requires : need.withdraw-bits-end-requires
 withdraw-bits-end-requires g c κs = let a = axis-of (c .args .axis) in record {
   c = c .pre .c;
-  fits = both-first (withdraw a (c .args .c)) (regrant a (c .args .c) (moment-of (c .args .k))) (withdraw-leaves a (c .args .c)) (grant-bit-grows a (c .args .c) (moment-of (c .args .k))) (c .args .c) (c .args .n) _ _ (c .pre .fits) }
+  fits = both-first (withdraw a (c .args .c)) (regrant a (c .args .c) (moment-of (c .args .k))) (withdraw-leaves a (c .args .c)) (grant-bit-grows a (c .args .c) (moment-of (c .args .k))) (c .args .c) (c .args .n) _ _ (c .pre .fits);
+}
 
 pub grant-bits-requires : need.grant-bits-requires
 grant-bits-requires g c κs = let a = axis-of (c .args .axis) in record {
   c = c .pre .c;
-  fits = both-second (withdraw a (c .args .c)) (regrant a (c .args .c) (moment-of (c .args .k))) (withdraw-leaves a (c .args .c)) (grant-bit-grows a (c .args .c) (moment-of (c .args .k))) (c .args .c) (c .args .n) _ _ (c .pre .fits) _ _ _ (c .withdraw-bits-end .ensures) }
+  fits = both-second (withdraw a (c .args .c)) (regrant a (c .args .c) (moment-of (c .args .k))) (withdraw-leaves a (c .args .c)) (grant-bit-grows a (c .args .c) (moment-of (c .args .k))) (c .args .c) (c .args .n) _ _ (c .pre .fits) _ _ _ (c .withdraw-bits-end .ensures);
+}
 
 pub returns : need.returns
 returns g c = let a = axis-of (c .args .axis) in
-  both-wrote (withdraw a (c .args .c)) (regrant a (c .args .c) (moment-of (c .args .k))) (withdraw-leaves a (c .args .c)) (grant-bit-grows a (c .args .c) (moment-of (c .args .k))) (c .args .c) (c .args .n) _ _ (c .pre .fits) _ _ _ (c .withdraw-bits-end .ensures) _ _ _ (c .grant-bits .ensures)
+    both-wrote (withdraw a (c .args .c)) (regrant a (c .args .c) (moment-of (c .args .k))) (withdraw-leaves a (c .args .c)) (grant-bit-grows a (c .args .c) (moment-of (c .args .k))) (c .args .c) (c .args .n) _ _ (c .pre .fits) _ _ _ (c .withdraw-bits-end .ensures) _ _ _ (c .grant-bits .ensures)

@@ -12,7 +12,8 @@ pub withdraw-other-end-requires : need.withdraw-other-end-requires
 withdraw-other-end-requires g c κs = record {
   c = c .pre .c;
   d = c .loop-d-test .taken;
-  fits = at-room (withdraw (axis-of (c .args .axis)) (c .args .c)) (withdraw-one-grows (axis-of (c .args .axis)) (c .args .c)) (withdraw-leaves (axis-of (c .args .axis)) (c .args .c)) (c .args .c) (c .args .n) _ _ (c .pre .fits) (c .loop-d .d) (c .loop-d-test .taken) _ _ _ (c .loop-d .inv) }
+  fits = at-room (withdraw (axis-of (c .args .axis)) (c .args .c)) (withdraw-one-grows (axis-of (c .args .axis)) (c .args .c)) (withdraw-leaves (axis-of (c .args .axis)) (c .args .c)) (c .args .c) (c .args .n) _ _ (c .pre .fits) (c .loop-d .d) (c .loop-d-test .taken) _ _ _ (c .loop-d .inv);
+}
 
 pub loop-d-again : need.loop-d-again
 loop-d-again g c = at-step (withdraw (axis-of (c .args .axis)) (c .args .c)) (withdraw-one-grows (axis-of (c .args .axis)) (c .args .c)) (withdraw-leaves (axis-of (c .args .axis)) (c .args .c)) (c .args .c) (c .args .n) _ _ (c .pre .fits) (c .loop-d .d) (c .loop-d-test .taken) _ _ _ (c .loop-d .inv) _ _ _ (c .withdraw-other-end .ensures)

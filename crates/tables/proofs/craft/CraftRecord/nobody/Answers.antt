@@ -10,4 +10,5 @@ use Rattle.tables.proofs.craft.CraftRecord.nobody.Needs as need
 pub returns : need.returns
 returns c = record {
   value = λ i. record { box = record { half = xyz-same {A = ℕ} 1 i }; leg = xyz-same (record { base = pos 0; slope = pos 0 }) i };
-  sized = refl }
+  sized = refl;
+}
