@@ -10,9 +10,15 @@ fn main() {
     let here = PathBuf::from(std::env::var("CARGO_MANIFEST_DIR").unwrap());
     let made = here.join("../../target/staticlib");
     println!("cargo:rustc-link-search=native={}", made.display());
-    println!("cargo:rustc-link-search=native={}", kit().join("lib").display());
+    println!(
+        "cargo:rustc-link-search=native={}",
+        kit().join("lib").display()
+    );
     println!("cargo:rustc-link-lib=static=queue_bench");
     println!("cargo:rustc-link-lib=static=rattle_c");
-    println!("cargo:rerun-if-changed={}", made.join("libqueue_bench.a").display());
+    println!(
+        "cargo:rerun-if-changed={}",
+        made.join("libqueue_bench.a").display()
+    );
     println!("cargo:rerun-if-env-changed=RATTLE");
 }

@@ -54,5 +54,8 @@ pub fn mix(sum: u64, number: u64) -> u64 {
 pub fn mix_entry(sum: u64, slot: u16, moment: Moment) -> u64 {
     let with_slot = mix(sum, u64::from(slot));
     let with_n = mix(with_slot, u64::from(moment.time.n));
-    mix(with_n, u64::from(moment.time.d) * 2 + u64::from(moment.after))
+    mix(
+        with_n,
+        u64::from(moment.time.d) * 2 + u64::from(moment.after),
+    )
 }

@@ -26,7 +26,10 @@ extern "C" {
 
 /// The time that this thread has had the processor, in milliseconds: what other programs take does not count.
 fn own_time() -> f64 {
-    let mut now = Reading { seconds: 0, nanoseconds: 0 };
+    let mut now = Reading {
+        seconds: 0,
+        nanoseconds: 0,
+    };
     // SAFETY: 3 is the clock of the thread's own time on 64-bit Linux, and the place is ours.
     if unsafe { clock_gettime(3, &mut now) } != 0 {
         panic!("no clock of the thread's own time");
@@ -36,8 +39,8 @@ fn own_time() -> f64 {
 
 const FROM: u64 = 20261117;
 const SIZES: [u16; 3] = [100, 1000, 12352];
-/// For the show's run one slot has to stay empty.
-const SHOW_SIZES: [u16; 3] = [100, 1000, 12351];
+/// For the show's run eight slots have to stay empty.
+const SHOW_SIZES: [u16; 3] = [100, 1000, 12344];
 /// Rounds of the mixed run: four operations each.
 const ROUNDS: u32 = 250_000;
 /// Rounds of the show's run: one first and one put each.
@@ -77,10 +80,16 @@ fn mixed(slots: u16) {
     let n = black_box(slots);
     // SAFETY: the functions take and give plain numbers only, and keep nothing.
     let told = least(&[
-        ("draws, verified", &|| unsafe { queue_bench_mixed_none(FROM, n, ROUNDS) }),
+        ("draws, verified", &|| unsafe {
+            queue_bench_mixed_none(FROM, n, ROUNDS)
+        }),
         ("draws, plain", &|| runs::draws(FROM, n, ROUNDS)),
-        ("heap", &|| unsafe { queue_bench_mixed_heap(FROM, n, ROUNDS) }),
-        ("calendar", &|| unsafe { queue_bench_mixed_calendar(FROM, n, ROUNDS) }),
+        ("heap", &|| unsafe {
+            queue_bench_mixed_heap(FROM, n, ROUNDS)
+        }),
+        ("calendar", &|| unsafe {
+            queue_bench_mixed_calendar(FROM, n, ROUNDS)
+        }),
         ("lazy", &|| runs::mixed(false, FROM, n, ROUNDS)),
         ("lazy, swept", &|| runs::mixed(true, FROM, n, ROUNDS)),
     ]);
@@ -105,8 +114,12 @@ fn mixed(slots: u16) {
 fn shown(n: u16, rounds: u32, asks: u32, idles: u32) -> [f64; 3] {
     // SAFETY: as above.
     let told = least(&[
-        ("heap", &|| unsafe { queue_bench_show_heap(FROM, n, rounds, asks, idles) }),
-        ("calendar", &|| unsafe { queue_bench_show_calendar(FROM, n, rounds, asks, idles) }),
+        ("heap", &|| unsafe {
+            queue_bench_show_heap(FROM, n, rounds, asks, idles)
+        }),
+        ("calendar", &|| unsafe {
+            queue_bench_show_calendar(FROM, n, rounds, asks, idles)
+        }),
         ("lazy", &|| runs::show(false, FROM, n, rounds, asks, idles)),
     ]);
     agree("show", told[2].1, told[0].1);
@@ -140,7 +153,10 @@ fn show(slots: u16) {
 }
 
 fn main() {
-    println!("mixed: {} operations (drop, first, put, put), in ms, the draws taken off", 4 * ROUNDS);
+    println!(
+        "mixed: {} operations (drop, first, put, put), in ms, the draws taken off",
+        4 * ROUNDS
+    );
     println!(" slots | draws: verified, plain | heap, calendar, lazy, lazy swept | heap/lazy, calendar/lazy | heap/swept, calendar/swept");
     SIZES.iter().for_each(|&n| mixed(n));
     println!();

@@ -54,7 +54,7 @@ fn later(moment: Moment, sixteenths: u32) -> Moment {
     }
 }
 
-/// The run of a show: each round asks for the first, and puts it again a little later; before that it asks or idles so many times, emptying an empty slot each time.
+/// The run of a show: each round asks for the first, and puts it again a little later; before that it asks or idles so many times, emptying one of the eight empty slots after the filled ones each time.
 pub fn show(sweeps: bool, from: u64, slots: u16, rounds: u32, asks: u32, idles: u32) -> u64 {
     let mut queue = LazyQueue::new(12352, sweeps);
     let mut draw = Draw::new(from);
@@ -69,15 +69,15 @@ pub fn show(sweeps: bool, from: u64, slots: u16, rounds: u32, asks: u32, idles: 
     let mut sum = 0;
     for _ in 0..rounds {
         let mut told: u64 = 0;
-        for _ in 0..asks {
-            queue.remove(slots);
+        for turn in 0..asks {
+            queue.remove(slots + (turn % 8) as u16);
             if let Some((slot, moment)) = queue.first() {
                 told = told.wrapping_add(u64::from(slot) + u64::from(moment.time.n));
             }
         }
         sum = mix(sum, told);
-        for _ in 0..idles {
-            queue.remove(slots);
+        for turn in 0..idles {
+            queue.remove(slots + (turn % 8) as u16);
         }
         sum = mix(sum, 0);
         if let Some((slot, moment)) = queue.first() {

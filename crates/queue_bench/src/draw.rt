@@ -16,7 +16,9 @@ impl Draw {
 
     /// The next number, from 0 to 2^31 - 1.
     pub fn next(&mut self) -> u32 {
-        self.state = self.state.wrapping_mul(6364136223846793005).wrapping_add(1442695040888963407);
+        self.state = self.state
+            .wrapping_mul(6364136223846793005)
+            .wrapping_add(1442695040888963407);
         (self.state >> 33) as u32
     }
 
@@ -66,5 +68,8 @@ pub fn mix(sum: u64, number: u64) -> u64 {
 pub fn mix_entry(sum: u64, slot: u16, moment: Moment) -> u64 {
     let with_slot = mix(sum, u64::from(slot));
     let with_n = mix(with_slot, u64::from(moment.time.numerator()));
-    mix(with_n, u64::from(moment.time.denominator()) * 2 + u64::from(moment.after))
+    mix(
+        with_n,
+        u64::from(moment.time.denominator()) * 2 + u64::from(moment.after),
+    )
 }

@@ -24,11 +24,17 @@ fn later(moment: Moment, sixteenths: u32) -> Moment {
     }
 }
 
-/// Asks for the first so many times, each time after emptying a slot that is empty, so that no answer stands for the next; and adds up what was told.
-fn asked<Q: EventQueue>(queue: &mut Q, idle: u16, times: u32) -> u64 {
+/// Empties one of the eight slots after the filled ones, which changes nothing, as they are empty; but the compiler cannot know that.
+fn idle<Q: EventQueue>(queue: &mut Q, slots: u16, turn: u32) -> u64 {
+    let slot = slots.wrapping_add((turn % 8) as u16);
+    u64::from(queue.remove(slot).is_err())
+}
+
+/// Asks for the first so many times, idling before each; and adds up what was told.
+fn asked<Q: EventQueue>(queue: &mut Q, slots: u16, times: u32) -> u64 {
     let mut told: u64 = 0;
-    for _ in 0..times {
-        told = told.wrapping_add(u64::from(queue.remove(idle).is_err()));
+    for turn in 0..times {
+        told = told.wrapping_add(idle(queue, slots, turn));
         if let Some(head) = queue.first() {
             told = told.wrapping_add(u64::from(head.0) + u64::from(head.1.time.numerator()));
         }
@@ -37,10 +43,10 @@ fn asked<Q: EventQueue>(queue: &mut Q, idle: u16, times: u32) -> u64 {
 }
 
 /// The same without asking.
-fn idled<Q: EventQueue>(queue: &mut Q, idle: u16, times: u32) -> u64 {
+fn idled<Q: EventQueue>(queue: &mut Q, slots: u16, times: u32) -> u64 {
     let mut told: u64 = 0;
-    for _ in 0..times {
-        told = told.wrapping_add(u64::from(queue.remove(idle).is_err()));
+    for turn in 0..times {
+        told = told.wrapping_add(idle(queue, slots, turn));
     }
     told
 }
@@ -59,7 +65,7 @@ fn fill<Q: EventQueue>(queue: &mut Q, draw: &mut Draw, slots: u16) -> u64 {
     refused
 }
 
-/// The run on a queue. In each round it also asks for the first so many times more, or idles so many times; the slot after those that are filled is the one that stays empty.
+/// The run on a queue. In each round it also asks for the first so many times more, or idles so many times.
 pub fn run<Q: EventQueue>(
     queue: &mut Q,
     from: u64,
