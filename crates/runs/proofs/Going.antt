@@ -46,19 +46,24 @@ same-room goal l l′ b b′ m m′ e f g t = run goal (e t) (f t) (g t)
 
 pub going-none : (goal : Fraction) (m : Hall) (s p : List ℕ) → Going goal m m s s p p 0 0 0
 going-none goal m s p = record {
-  told = []; noted = [];
-  slip = sym (written-none 0 s); page = sym (written-none 0 p);
-  lines = refl; bytes = refl;
-  room = omega arith; space = omega arith;
+  told = [];
+  noted = [];
+  slip = sym (written-none 0 s);
+  page = sym (written-none 0 p);
+  lines = refl;
+  bytes = refl;
+  room = omega arith;
+  space = omega arith;
   tally = same (left m);
-  whole = fresh (run goal (length s) (length p) m) ∙ ap (prefixed [] [] 0) (same-room goal (length s) (length s - 0) (length p) (length p - 0) m m (omega arith) (omega arith) refl) }
+  whole = fresh (run goal (length s) (length p) m) ∙ ap (prefixed [] [] 0) (same-room goal (length s) (length s - 0) (length p) (length p - 0) m m (omega arith) (omega arith) refl);
+}
   where
     same : (x : ℕ) → 0 + x ≤ x
     same x = omega arith
 
 more-written : (n : ℕ) (a b s₀ s s′ : List ℕ) → n ≡ length a → n ≤ length s₀ → s ≡ written 0 a s₀ → s′ ≡ written n b s → s′ ≡ written 0 (a ++ b) s₀
 more-written n a b s₀ s s′ e h p q =
-  q ∙ ap (written n b) p ∙ ap (λ (i : ℕ). written i b (written 0 a s₀)) (e ∙ sym (zero-add (length a))) ∙ written-then 0 a b s₀ (omega arith)
+    q ∙ ap (written n b) p ∙ ap (λ (i : ℕ). written i b (written 0 a s₀)) (e ∙ sym (zero-add (length a))) ∙ written-then 0 a b s₀ (omega arith)
 
 more-long : (n r : ℕ) (a b : List ℕ) → n ≡ length a → r ≡ n + length b → r ≡ length (a ++ b)
 more-long n r a b e f = f ∙ ap (λ (i : ℕ). i + length b) e ∙ sym (length-append a b)
@@ -69,7 +74,8 @@ stepped ls ps k st r t = record {
   lines = sym (append-assoc ls (st .out .lines) (r .lines)) t;
   page = sym (append-assoc ps (records (st .time) (st .news)) (r .page)) t;
   ended = r .ended;
-  steps = count k (r .steps) t }
+  steps = count k (r .steps) t;
+}
   where
     count : (x y : ℕ) → x + suc y ≡ x + 1 + y
     count x y = omega arith
@@ -115,27 +121,30 @@ module _ (goal : Fraction) (l b : ℕ) (m : Hall) where
     pub fire-fits : (n : ℕ) (s : List ℕ) → n + l ≤ length s → Fits (fire (f .0) (f .1)) n m s
     fire-fits n s h = record {
       room = up n (length (one .out .lines)) l (length s) lines-most h;
-      numbers = under (m .last) (one .out .hall .last) (fire-within (f .0) (f .1) m (x .slot) .0 .most) (x .numbers) }
+      numbers = under (m .last) (one .out .hall .last) (fire-within (f .0) (f .1) m (x .slot) .0 .most) (x .numbers);
+    }
       where
         up : (i j k o : ℕ) → j ≤ k → i + k ≤ o → i + j ≤ o
         up i j k o p q = omega arith
+
         under : (i j : ℕ) → j ≤ i + 190 → 190 ≤ 20000000 - i → j ≤ 20000000
         under i j p q = omega arith
 
 module _ (goal : Fraction) (m₀ m : Hall) (s₀ s p₀ p : List ℕ) (k n b : ℕ) (g : Going goal m₀ m s₀ s p₀ p k n b) where
   pub going-all : (e : ℕ) → Stop goal (length s₀ - n) (length p₀ - b) m e → Went goal m₀ m s₀ s p₀ p e k n b
   going-all e x =
-    let all = g .whole ∙ ap (prefixed (g .told) (g .noted) k) (over goal (length s₀ - n) (length p₀ - b) m e x) in
-    let ls = ap (λ (r : Ran). r .lines) all ∙ append-nil (g .told) in
-    let ps = ap (λ (r : Ran). r .page) all ∙ append-nil (g .noted) in
-    record {
-      hall = sym (ap (λ (r : Ran). r .hall) all);
-      slip = g .slip ∙ written-start (g .told) s₀ ∙ (λ t. sym ls t ++ drop (sym (g .lines) t) s₀);
-      page = g .page ∙ written-start (g .noted) p₀ ∙ (λ t. sym ps t ++ drop (sym (g .bytes) t) p₀);
-      ended = sym (ap (λ (r : Ran). r .ended) all);
-      steps = sym (ap (λ (r : Ran). r .steps) all ∙ add-zero k);
-      lines = g .lines ∙ sym (ap length ls);
-      bytes = g .bytes ∙ sym (ap length ps) }
+      let all = g .whole ∙ ap (prefixed (g .told) (g .noted) k) (over goal (length s₀ - n) (length p₀ - b) m e x) in
+      let ls = ap (λ (r : Ran). r .lines) all ∙ append-nil (g .told) in
+      let ps = ap (λ (r : Ran). r .page) all ∙ append-nil (g .noted) in
+      record {
+        hall = sym (ap (λ (r : Ran). r .hall) all);
+        slip = g .slip ∙ written-start (g .told) s₀ ∙ (λ t. sym ls t ++ drop (sym (g .lines) t) s₀);
+        page = g .page ∙ written-start (g .noted) p₀ ∙ (λ t. sym ps t ++ drop (sym (g .bytes) t) p₀);
+        ended = sym (ap (λ (r : Ran). r .ended) all);
+        steps = sym (ap (λ (r : Ran). r .steps) all ∙ add-zero k);
+        lines = g .lines ∙ sym (ap length ls);
+        bytes = g .bytes ∙ sym (ap length ps);
+      }
 
   module _ (f : ℕ × Stamp) (x : Next goal (length s₀ - n) (length p₀ - b) m f) where
     abbrev now-told : List ℕ
@@ -145,7 +154,7 @@ module _ (goal : Fraction) (m₀ m : Hall) (s₀ s p₀ p : List ℕ) (k n b : �
     now-noted = records (step (f .0) (f .1) m .time) (step (f .0) (f .1) m .news)
 
     pub going-more : (m′ : Hall) (s′ p′ : List ℕ) (n′ b′ : ℕ) → Wrote (fire (f .0) (f .1)) n m m′ s s′ n′ → b′ ≡ b + length now-noted → p′ ≡ written b now-noted p →
-      Going goal m₀ m′ s₀ s′ p₀ p′ (k + 1) n′ b′
+        Going goal m₀ m′ s₀ s′ p₀ p′ (k + 1) n′ b′
     going-more m′ s′ p′ n′ b′ w i j = record {
       told = g .told ++ now-told;
       noted = g .noted ++ now-noted;
@@ -157,14 +166,17 @@ module _ (goal : Fraction) (m₀ m : Hall) (s₀ s p₀ p : List ℕ) (k n b : �
       space = within b b′ (length p₀) (length now-noted) i (g .space) (bytes-most goal (length s₀ - n) (length p₀ - b) m f x);
       tally = count k (left m) (left m₀) (left m′) (g .tally) (subst (λ (h : Hall). left h < left m) (sym (w .hall)) (fewer goal (length s₀ - n) (length p₀ - b) m f x));
       whole =
-        g .whole ∙ ap (prefixed (g .told) (g .noted) k) (goes-on goal (length s₀ - n) (length p₀ - b) m f x)
-        ∙ stepped (g .told) (g .noted) k (step (f .0) (f .1) m) _
-        ∙ ap (prefixed (g .told ++ now-told) (g .noted ++ now-noted) (k + 1)) (same-room goal _ _ _ _ _ _ (short n n′ (length s₀) (length now-told) (w .count)) (short b b′ (length p₀) (length now-noted) i) (sym (w .hall))) }
+          g .whole ∙ ap (prefixed (g .told) (g .noted) k) (goes-on goal (length s₀ - n) (length p₀ - b) m f x)
+          ∙ stepped (g .told) (g .noted) k (step (f .0) (f .1) m) _
+          ∙ ap (prefixed (g .told ++ now-told) (g .noted ++ now-noted) (k + 1)) (same-room goal _ _ _ _ _ _ (short n n′ (length s₀) (length now-told) (w .count)) (short b b′ (length p₀) (length now-noted) i) (sym (w .hall)));
+    }
       where
         within : (c d e o : ℕ) → d ≡ c + o → c ≤ e → o ≤ e - c → d ≤ e
         within c d e o p q r = omega arith
+
         short : (c d e o : ℕ) → d ≡ c + o → e - c - o ≡ e - d
         short c d e o p = omega arith
+
         count : (c d e o : ℕ) → c + d ≤ e → o < d → c + 1 + o ≤ e
         count c d e o p q = omega arith
 

@@ -37,4 +37,5 @@ module _ (goal : Fraction) (l b : ℕ) (m : Hall) where
         slot = h;
         room = ltb-false l 380 (or-parts (ltb l 380) (ltb b 11) x .0);
         space = ltb-false b 11 (or-parts (ltb l 380) (ltb b 11) x .1);
-        numbers = ltb-false (left m) 190 y }
+        numbers = ltb-false (left m) 190 y;
+      }

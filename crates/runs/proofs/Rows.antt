@@ -63,37 +63,39 @@ module _ (m : Hall) (c : ℕ) where
       self : (x : ℕ) → x ≤ x
       self x = omega arith
   longer n (suc k) =
-    subst (λ (i : ℕ). length (row-with m c (below n)) ≤ length (row-with m c (below i))) (next n k)
+      subst (λ (i : ℕ). length (row-with m c (below n)) ≤ length (row-with m c (below i))) (next n k)
       (up _ _ _ _ (longer n k) (ap length (grown (n + k)) ∙ length-append (row-with m c (below (n + k))) (last-of (n + k))))
     where
       next : (x y : ℕ) → suc (x + y) ≡ x + suc y
       next x y = omega arith
+
       up : (x y z w : ℕ) → x ≤ y → w ≡ y + z → x ≤ w
       up x y z w p q = omega arith
 
   pub row-room : (n : ℕ) → n < 64 → listed m c n ≡ true → length (row-with m c (below n)) < length (row m c)
   row-room n h e =
-    under _ _ _ (long-hit n e) (longer (n + 1) (63 - n)) (ap (λ (xs : List ℕ). length (row-with m c xs)) (all-below (n + 1 + (63 - n)) (omega arith)))
+      under _ _ _ (long-hit n e) (longer (n + 1) (63 - n)) (ap (λ (xs : List ℕ). length (row-with m c xs)) (all-below (n + 1 + (63 - n)) (omega arith)))
     where
       under : (x y z : ℕ) → {w : ℕ} → y ≡ x + 1 → y ≤ z → z ≡ w → x < w
       under x y z p q r = omega arith
 
   -- the row written so far, and one entry more
   pub row-put : (k n d : ℕ) (s s₀ : List ℕ) → listed m c d ≡ true → d < 64 → k + length (row m c) ≤ length s₀ → n ≡ k + length (row-with m c (below d)) → s ≡ written k (row-with m c (below d)) s₀ →
-    set s n (entry c d) ≡ written k (row-with m c (below (d + 1))) s₀
+      set s n (entry c d) ≡ written k (row-with m c (below (d + 1))) s₀
   row-put k n d s s₀ e h r i j =
-    let a = row-with m c (below d) in
-    let lt = row-room d h e in
-    let fits : k + length a ≤ length s₀ = close k (length a) (length (row m c)) (length s₀) lt r in
-    let long : length s ≡ length s₀ = ap length j ∙ written-length k a s₀ fits in
-    written-one n (entry c d) s (less k (length a) (length (row m c)) (length s₀) n (length s) lt r i long)
-    ∙ ap (written n (entry c d ∷ [])) j
-    ∙ ap (λ (x : ℕ). written x (entry c d ∷ []) (written k a s₀)) i
-    ∙ written-then k a (entry c d ∷ []) s₀ fits
-    ∙ ap (λ (xs : List ℕ). written k xs s₀) (sym (row-hit d e))
+      let a = row-with m c (below d) in
+      let lt = row-room d h e in
+      let fits : k + length a ≤ length s₀ = close k (length a) (length (row m c)) (length s₀) lt r in
+      let long : length s ≡ length s₀ = ap length j ∙ written-length k a s₀ fits in
+      written-one n (entry c d) s (less k (length a) (length (row m c)) (length s₀) n (length s) lt r i long)
+      ∙ ap (written n (entry c d ∷ [])) j
+      ∙ ap (λ (x : ℕ). written x (entry c d ∷ []) (written k a s₀)) i
+      ∙ written-then k a (entry c d ∷ []) s₀ fits
+      ∙ ap (λ (xs : List ℕ). written k xs s₀) (sym (row-hit d e))
     where
       close : (x y z w : ℕ) → y < z → x + z ≤ w → x + y ≤ w
       close x y z w p q = omega arith
+
       less : (x y z w v u : ℕ) → y < z → x + z ≤ w → v ≡ x + y → u ≡ w → v < u
       less x y z w v u p q r s = omega arith
 
@@ -106,10 +108,10 @@ joined-append (x ∷ xs) ys = ap (λ (z : List ℕ). x ++ z) (joined-append xs y
 module _ (m : Hall) where
   pub rows-more : (c : ℕ) → rows-of m (below (c + 1)) ≡ rows-of m (below c) ++ row m c
   rows-more c =
-    ap (λ (i : ℕ). rows-of m (below i)) (add-one c)
-    ∙ ap joined (map-append (row m) (below c) (c ∷ []))
-    ∙ joined-append (map (row m) (below c)) (row m c ∷ [])
-    ∙ ap (λ (xs : List ℕ). rows-of m (below c) ++ xs) (append-nil (row m c))
+      ap (λ (i : ℕ). rows-of m (below i)) (add-one c)
+      ∙ ap joined (map-append (row m) (below c) (c ∷ []))
+      ∙ joined-append (map (row m) (below c)) (row m c ∷ [])
+      ∙ ap (λ (xs : List ℕ). rows-of m (below c) ++ xs) (append-nil (row m c))
 
   pub rows-longer : (c : ℕ) → length (rows-of m (below (c + 1))) ≡ length (rows-of m (below c)) + length (row m c)
   rows-longer c = ap length (rows-more c) ∙ length-append (rows-of m (below c)) (row m c)
@@ -120,10 +122,11 @@ module _ (m : Hall) where
       self : (x : ℕ) → x ≤ x
       self x = omega arith
   rises n (suc k) =
-    subst (λ (i : ℕ). length (rows-of m (below n)) ≤ length (rows-of m (below i))) (next n k) (up _ _ _ _ (rises n k) (rows-longer (n + k)))
+      subst (λ (i : ℕ). length (rows-of m (below n)) ≤ length (rows-of m (below i))) (next n k) (up _ _ _ _ (rises n k) (rows-longer (n + k)))
     where
       next : (x y : ℕ) → x + y + 1 ≡ x + suc y
       next x y = omega arith
+
       up : (x y z w : ℕ) → x ≤ y → w ≡ y + z → x ≤ w
       up x y z w p q = omega arith
 
@@ -149,20 +152,21 @@ module _ (m : Hall) where
 
   pub rows-room : (c : ℕ) → c < 64 → length (rows-of m (below c)) + length (row m c) ≤ length (pairs m)
   rows-room c h =
-    under _ _ _ (rows-longer c) (rises (c + 1) (63 - c)) (ap length (pairs-rows (c + 1 + (63 - c)) (omega arith)))
+      under _ _ _ (rows-longer c) (rises (c + 1) (63 - c)) (ap length (pairs-rows (c + 1 + (63 - c)) (omega arith)))
     where
       under : (x y z : ℕ) → {w : ℕ} → y ≡ x → y ≤ z → z ≡ w → x ≤ w
       under x y z p q r = omega arith
 
   -- the rows written so far, and one row more
   pub rows-put : (c n r : ℕ) (s s₀ s′ : List ℕ) → c < 64 → length (pairs m) ≤ length s₀ → n ≡ length (rows-of m (below c)) → s ≡ written 0 (rows-of m (below c)) s₀ → s′ ≡ written n (row m c) s → r ≡ n + length (row m c) →
-    (r ≡ length (rows-of m (below (c + 1)))) × (s′ ≡ written 0 (rows-of m (below (c + 1))) s₀)
+      (r ≡ length (rows-of m (below (c + 1)))) × (s′ ≡ written 0 (rows-of m (below (c + 1))) s₀)
   rows-put c n r s s₀ s′ h f i j w e =
-    let a = rows-of m (below c) in
-    let up = rows-room c h in
-    ( e ∙ ap (λ (x : ℕ). x + length (row m c)) i ∙ sym (rows-longer c)
-    , w ∙ ap (written n (row m c)) j ∙ ap (λ (x : ℕ). written x (row m c) (written 0 a s₀)) (i ∙ sym (zero-add (length a)))
-      ∙ written-then 0 a (row m c) s₀ (close (length a) (length (row m c)) (length (pairs m)) (length s₀) up f) ∙ ap (λ (xs : List ℕ). written 0 xs s₀) (sym (rows-more c)) )
+      let a = rows-of m (below c) in
+      let up = rows-room c h in (
+        e ∙ ap (λ (x : ℕ). x + length (row m c)) i ∙ sym (rows-longer c),
+        w ∙ ap (written n (row m c)) j ∙ ap (λ (x : ℕ). written x (row m c) (written 0 a s₀)) (i ∙ sym (zero-add (length a)))
+            ∙ written-then 0 a (row m c) s₀ (close (length a) (length (row m c)) (length (pairs m)) (length s₀) up f) ∙ ap (λ (xs : List ℕ). written 0 xs s₀) (sym (rows-more c)),
+      )
     where
       close : (x y z u : ℕ) → x + y ≤ z → z ≤ u → 0 + x ≤ u
       close x y z u p q = omega arith
@@ -170,4 +174,5 @@ module _ (m : Hall) where
   pub rows-done : (c n : ℕ) (s s₀ : List ℕ) → c ≡ 64 → n ≡ length (rows-of m (below c)) → s ≡ written 0 (rows-of m (below c)) s₀ → Listed m s₀ s n
   rows-done c n s s₀ e i j = record {
     count = i ∙ ap length (pairs-rows c e);
-    list = j ∙ written-start (rows-of m (below c)) s₀ ∙ (λ t. pairs-rows c e t ++ drop (sym i t) s₀) }
+    list = j ∙ written-start (rows-of m (below c)) s₀ ∙ (λ t. pairs-rows c e t ++ drop (sym i t) s₀);
+  }

@@ -71,7 +71,7 @@ module _ (s : ℕ) (k : Stamp) (m : Hall) where
   no-pair h t = stays X (λ e. omega arith) t && stays Y (λ e. omega arith) t && stays Z (λ e. omega arith) t
 
   of-pair : s < 12288 → low ≤ high → (x y : Bool) → ltb s 4096 ≡ x → ltb s 8192 ≡ y →
-    (after X && after Y && after Z) ≡ all-set (turned (code-axis (cond x X (cond y Y Z))) (pair-bits s m))
+      (after X && after Y && after Z) ≡ all-set (turned (code-axis (cond x X (cond y Y Z))) (pair-bits s m))
   of-pair p q true y e g t = let h = ltb-true s 4096 e in is-turned X (omega arith) t && stays Y (λ e. omega arith) t && stays Z (λ e. omega arith) t
   of-pair p q false true e g t = let h = ltb-false s 4096 e in let i = ltb-true s 8192 g in stays X (λ e. omega arith) t && is-turned Y (omega arith) t && stays Z (λ e. omega arith) t
   of-pair p q false false e g t = let h = ltb-false s 8192 g in stays X (λ e. omega arith) t && stays Y (λ e. omega arith) t && is-turned Z (omega arith) t
@@ -81,8 +81,8 @@ module _ (s : ℕ) (k : Stamp) (m : Hall) where
 
   pub leg-told : 12288 ≤ s → step s k m .news ≡ news-of (certificate-at s) (pair-bits s m)
   leg-told h =
-    ap (λ (b : Bool). cond b (news-in s m (fire s k m .hall)) None) (le-ltb s 12288 h)
-    ∙ sym (ap (λ (b : Bool). news-of (cond (b || ltb high low) Leg bit-certificate) (pair-bits s m)) (le-leb 12288 s h))
+      ap (λ (b : Bool). cond b (news-in s m (fire s k m .hall)) None) (le-ltb s 12288 h)
+      ∙ sym (ap (λ (b : Bool). news-of (cond (b || ltb high low) Leg bit-certificate) (pair-bits s m)) (le-leb 12288 s h))
 
   is-bit : s < 12288 → step s k m .news ≡ news (together low high m) (after X && after Y && after Z) low high
   is-bit h = ap (λ (b : Bool). cond b (news-in s m (fire s k m .hall)) None) (lt-ltb s 12288 h) ∙ ap (λ (b : Bool). news (together low high m) b low high) (together-after h)
@@ -92,13 +92,13 @@ module _ (s : ℕ) (k : Stamp) (m : Hall) where
 
   pub no-pair-told : s < 12288 → high < low → step s k m .news ≡ news-of (certificate-at s) (pair-bits s m)
   no-pair-told p h =
-    is-bit p ∙ ap (λ (b : Bool). news (together low high m) b low high) (no-pair h) ∙ unchanged (together low high m) low high
-    ∙ sym (ap (λ (c : Certificate). news-of c (pair-bits s m)) (named p true (lt-ltb high low h)))
+      is-bit p ∙ ap (λ (b : Bool). news (together low high m) b low high) (no-pair h) ∙ unchanged (together low high m) low high
+      ∙ sym (ap (λ (c : Certificate). news-of c (pair-bits s m)) (named p true (lt-ltb high low h)))
 
   pub pair-told : s < 12288 → low ≤ high → step s k m .news ≡ news-of (certificate-at s) (pair-bits s m)
   pair-told p h =
-    is-bit p ∙ ap (λ (b : Bool). news (together low high m) b low high) (of-pair p h (ltb s 4096) (ltb s 8192) refl refl)
-    ∙ sym (ap (λ (c : Certificate). news-of c (pair-bits s m)) (named p false (le-ltb high low h)))
+      is-bit p ∙ ap (λ (b : Bool). news (together low high m) b low high) (of-pair p h (ltb s 4096) (ltb s 8192) refl refl)
+      ∙ sym (ap (λ (c : Certificate). news-of c (pair-bits s m)) (named p false (le-ltb high low h)))
 
   -- the news of a step, by the certificate and the bits before it
   pub step-told : step s k m .news ≡ news-of (certificate-at s) (pair-bits s m)

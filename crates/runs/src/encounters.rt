@@ -2,7 +2,6 @@
 ghost use mathlib.Core.Path.{_≡_};
 ghost use Prim.Native.Nat.{_<_};
 ghost use Rattle.runs.specs.Encounters.{encounter-told, news-of, certificate-at};
-
 use floor::leaves::axis_at;
 use floor::leaves::higher_at;
 use floor::leaves::lower_at;

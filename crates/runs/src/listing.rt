@@ -8,7 +8,6 @@ ghost use Rattle.floor_laws.specs.Writing.{written};
 ghost use Rattle.floor.specs.Of.{hall-of};
 ghost use Rattle.times.specs.Refusals.{number-of};
 ghost use Rattle.runs.specs.Listing.{listed, entry, row, Listed, TooShort};
-
 use books::FlightBook;
 use floor::Floor;
 use queues::EventQueue;
@@ -59,7 +58,12 @@ pub fn count_pairs<B: FlightBook, Q: EventQueue>(floor: &Floor<B, Q>) -> usize
 }
 
 /// Writes the entries of a craft with higher numbers into the list from n on, ascending; tells where they end.
-fn list_row<B: FlightBook, Q: EventQueue>(floor: &Floor<B, Q>, c: u8, list: &mut [u16], n: usize) -> usize
+fn list_row<B: FlightBook, Q: EventQueue>(
+    floor: &Floor<B, Q>,
+    c: u8,
+    list: &mut [u16],
+    n: usize,
+) -> usize
     requires c { ⌜ c < 64 ⌝ }
     requires room { ⌜ n + length (row (hall-of meaning holds (now floor)) c) ≤ length (now list) ⌝ }
     ensures list { λ r. ⌜ now (list .exit) ≡ written n (row (hall-of meaning holds (now (floor .entry))) c) (now (list .entry)) ⌝ }
@@ -76,7 +80,10 @@ fn list_row<B: FlightBook, Q: EventQueue>(floor: &Floor<B, Q>, c: u8, list: &mut
 }
 
 /// Writes the touching pairs at the list's start, ascending, and tells how many; refused where they do not fit, and nothing is written.
-pub fn list_pairs<B: FlightBook, Q: EventQueue>(floor: &Floor<B, Q>, list: &mut [u16]) -> Result<usize, Refusal>
+pub fn list_pairs<B: FlightBook, Q: EventQueue>(
+    floor: &Floor<B, Q>,
+    list: &mut [u16],
+) -> Result<usize, Refusal>
     ensures { λ r. ⌜ Cases r (λ n. Listed (hall-of meaning holds (now (floor .entry))) (now (list .entry)) (now (list .exit)) n) (λ e. TooShort (hall-of meaning holds (now (floor .entry))) (now (list .entry)) (now (list .exit)) × (number-of e ≡ 15)) ⌝ }
 {
     if list.len() < count_pairs(floor) {

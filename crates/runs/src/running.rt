@@ -11,7 +11,6 @@ ghost use Rattle.runs.specs.Encounters.{encounter-told};
 ghost use Rattle.runs.specs.Running.{ended-number, reported, Next, Stop, Went};
 ghost use lib.Dec.{ltb};
 ghost use mathlib.Core.Bool.{_||_};
-
 use crate::encounters::Encounter;
 use crate::ended::Ended;
 use crate::stepping::step;
@@ -48,7 +47,12 @@ fn too_few(left: u32) -> bool
 }
 
 /// The next step of a run with room for so many lines and bytes: the slot that is due and its moment; or how the run ends.
-fn next<B: FlightBook, Q: EventQueue>(floor: &Floor<B, Q>, goal: Time, lines: usize, bytes: usize) -> Result<(u16, Moment), Ended>
+fn next<B: FlightBook, Q: EventQueue>(
+    floor: &Floor<B, Q>,
+    goal: Time,
+    lines: usize,
+    bytes: usize,
+) -> Result<(u16, Moment), Ended>
     ensures { λ r. ⌜ Cases r (λ f. Next (time-of goal) lines bytes (hall-of meaning holds (now (floor .entry))) (f .0, moment-of (f .1))) (λ e. Stop (time-of goal) lines bytes (hall-of meaning holds (now (floor .entry))) (ended-number e)) ⌝ }
 {
     let Some(due) = floor.due(goal) else {
@@ -68,8 +72,18 @@ fn report(news: Encounter, time: Time) -> Option<Report>
     ensures { λ r. ⌜ reported r ≡ records (time-of time) (encounter-told news) ⌝ }
 {
     match news {
-        Encounter::Met(lower, higher) => Some(Report { kind: Kind::Meeting, lower, higher, time }),
-        Encounter::Parted(lower, higher) => Some(Report { kind: Kind::Parting, lower, higher, time }),
+        Encounter::Met(lower, higher) => Some(Report {
+            kind: Kind::Meeting,
+            lower,
+            higher,
+            time,
+        }),
+        Encounter::Parted(lower, higher) => Some(Report {
+            kind: Kind::Parting,
+            lower,
+            higher,
+            time,
+        }),
         Encounter::Neither => None,
     }
 }
@@ -91,7 +105,12 @@ fn write_news(page: &mut [u8], at: usize, news: Encounter, time: Time) -> usize
 
 /// Steps until nothing is due by the goal, with the lines from the slip's start and the records of meetings and partings from the
 /// page's start. Before each step it ends where nothing is due, then where lines or bytes might not suffice, then where numbers might not.
-pub fn run<B: FlightBook, Q: EventQueue>(floor: &mut Floor<B, Q>, goal: Time, slip: &mut [u32], page: &mut [u8]) -> Ran
+pub fn run<B: FlightBook, Q: EventQueue>(
+    floor: &mut Floor<B, Q>,
+    goal: Time,
+    slip: &mut [u32],
+    page: &mut [u8],
+) -> Ran
     ensures { λ r. ⌜ Went (time-of goal) (hall-of meaning holds (now (floor .entry))) (hall-of meaning holds (now (floor .exit))) (now (slip .entry)) (now (slip .exit)) (now (page .entry)) (now (page .exit)) (ended-number (r .ended)) (r .steps) (r .lines) (r .bytes) ⌝ }
 {
     let mut steps = 0;
@@ -100,7 +119,12 @@ pub fn run<B: FlightBook, Q: EventQueue>(floor: &mut Floor<B, Q>, goal: Time, sl
     'steps: loop {
         let (slot, moment) = match next(floor, goal, slip.len() - lines, page.len() - bytes) {
             Ok(due) => due,
-            Err(ended) => return Ran { ended, steps, lines, bytes },
+            Err(ended) => return Ran {
+                ended,
+                steps,
+                lines,
+                bytes,
+            },
         };
         let done = step(floor, slot, moment, slip, lines);
         bytes = write_news(page, bytes, done.news, done.time);

@@ -10,9 +10,10 @@ use Rattle.runs.proofs.listing.count_pairs.Needs as need
 pub loop-c-again : need.loop-c-again
 loop-c-again g c =
     let m : Hall = hall-of (g .B·FlightBook .meaning) (g .Q·EventQueue .holds) (c .args .floor .now) in
-    let i = c .loop-c .inv .1 in
-    ( (λ t. c .loop-c .inv .0 t + c .count-row-n .ensures .value t) ∙ sym (rows-longer m (c .loop-c .c))
-    , omega arith )
+    let i = c .loop-c .inv .1 in (
+      (λ t. c .loop-c .inv .0 t + c .count-row-n .ensures .value t) ∙ sym (rows-longer m (c .loop-c .c)),
+      omega arith,
+    )
 
 pub returns : need.returns
 returns g c =

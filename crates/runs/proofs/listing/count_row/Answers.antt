@@ -20,9 +20,10 @@ add-n g c =
 pub loop-d-again : need.loop-d-again
 loop-d-again g c =
     let m : Hall = hall-of (g .B·FlightBook .meaning) (g .Q·EventQueue .holds) (c .args .floor .now) in
-    elim (c .if-is-listed .came)
-    [ then-is-listed w ↦ w .n-is ∙ ap (λ (x : ℕ). x + 1) (c .loop-d .inv) ∙ sym (long-hit m (c .args .c) (c .loop-d .d) (sym (c .is-listed .ensures) ∙ w .if-is-listed .taken))
-    | else-is-listed w ↦ w .n-is ∙ c .loop-d .inv ∙ sym (ap length (row-miss m (c .args .c) (c .loop-d .d) (sym (c .is-listed .ensures) ∙ w .if-is-listed .left))) ]
+    elim (c .if-is-listed .came) [
+      | then-is-listed w ↦ w .n-is ∙ ap (λ (x : ℕ). x + 1) (c .loop-d .inv) ∙ sym (long-hit m (c .args .c) (c .loop-d .d) (sym (c .is-listed .ensures) ∙ w .if-is-listed .taken))
+      | else-is-listed w ↦ w .n-is ∙ c .loop-d .inv ∙ sym (ap length (row-miss m (c .args .c) (c .loop-d .d) (sym (c .is-listed .ensures) ∙ w .if-is-listed .left)))
+    ]
 
 pub returns : need.returns
 returns g c =
@@ -31,4 +32,5 @@ returns g c =
     let i = c .loop-d .inv in
     record {
       value = i ∙ ap (λ (xs : List ℕ). length (row-with m (c .args .c) xs)) (all-below (c .loop-d .d) (omega arith));
-      most = omega arith }
+      most = omega arith;
+    }

@@ -40,15 +40,18 @@ add-end g c =
 pub loop-d-again : need.loop-d-again
 loop-d-again g c =
     let m : Hall = hall-of (g .B·FlightBook .meaning) (g .Q·EventQueue .holds) (c .args .floor .now) in
-    elim (c .if-is-listed .came)
-    [ then-is-listed w ↦
-        let e = sym (c .is-listed .ensures) ∙ w .if-is-listed .taken in
-        ( w .end-is ∙ ap (λ (x : ℕ). x + 1) (c .loop-d .inv .0) ∙ add-assoc (c .args .n) _ 1 ∙ ap (λ (x : ℕ). c .args .n + x) (sym (long-hit m (c .args .c) (c .loop-d .d) e))
-        , w .list-is ∙ ap (set (c .loop-d .list) (c .loop-d .end)) (w .entry-of .ensures) ∙ row-put m (c .args .c) (c .args .n) (c .loop-d .end) (c .loop-d .d) (c .loop-d .list) (c .args .list .now) e (omega arith) (c .pre .room) (c .loop-d .inv .0) (c .loop-d .inv .1) )
-    | else-is-listed w ↦
-        let e = row-miss m (c .args .c) (c .loop-d .d) (sym (c .is-listed .ensures) ∙ w .if-is-listed .left) in
-        ( w .end-is ∙ c .loop-d .inv .0 ∙ ap (λ (xs : List ℕ). c .args .n + length xs) (sym e)
-        , w .list-is ∙ c .loop-d .inv .1 ∙ ap (λ (xs : List ℕ). written (c .args .n) xs (c .args .list .now)) (sym e) ) ]
+    elim (c .if-is-listed .came) [
+      | then-is-listed w ↦
+          let e = sym (c .is-listed .ensures) ∙ w .if-is-listed .taken in (
+            w .end-is ∙ ap (λ (x : ℕ). x + 1) (c .loop-d .inv .0) ∙ add-assoc (c .args .n) _ 1 ∙ ap (λ (x : ℕ). c .args .n + x) (sym (long-hit m (c .args .c) (c .loop-d .d) e)),
+            w .list-is ∙ ap (set (c .loop-d .list) (c .loop-d .end)) (w .entry-of .ensures) ∙ row-put m (c .args .c) (c .args .n) (c .loop-d .end) (c .loop-d .d) (c .loop-d .list) (c .args .list .now) e (omega arith) (c .pre .room) (c .loop-d .inv .0) (c .loop-d .inv .1),
+          )
+      | else-is-listed w ↦
+          let e = row-miss m (c .args .c) (c .loop-d .d) (sym (c .is-listed .ensures) ∙ w .if-is-listed .left) in (
+            w .end-is ∙ c .loop-d .inv .0 ∙ ap (λ (xs : List ℕ). c .args .n + length xs) (sym e),
+            w .list-is ∙ c .loop-d .inv .1 ∙ ap (λ (xs : List ℕ). written (c .args .n) xs (c .args .list .now)) (sym e),
+          )
+    ]
 
 pub returns : need.returns
 returns g c =
@@ -56,4 +59,5 @@ returns g c =
     let e = all-below (c .loop-d .d) (omega arith) in
     record {
       list = c .loop-d .inv .1 ∙ ap (λ (xs : List ℕ). written (c .args .n) (row-with m (c .args .c) xs) (c .args .list .now)) e;
-      count = c .loop-d .inv .0 ∙ ap (λ (xs : List ℕ). c .args .n + length (row-with m (c .args .c) xs)) e }
+      count = c .loop-d .inv .0 ∙ ap (λ (xs : List ℕ). c .args .n + length (row-with m (c .args .c) xs)) e;
+    }

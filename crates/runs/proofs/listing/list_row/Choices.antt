@@ -9,5 +9,5 @@ use Rattle.runs.proofs.listing.list_row.Given as given
 
 abbrev pub Inv-loop-d : given.InvT-loop-d
 Inv-loop-d g l =
-  let m = hall-of (g .B·FlightBook .meaning) (g .Q·EventQueue .holds) (l .floor) in
-  (l .end ≡ l .n + length (row-with m (l .c) (below (l .d)))) × (l .list ≡ written (l .n) (row-with m (l .c) (below (l .d))) (l .entry .list))
+    let m = hall-of (g .B·FlightBook .meaning) (g .Q·EventQueue .holds) (l .floor) in
+    (l .end ≡ l .n + length (row-with m (l .c) (below (l .d)))) × (l .list ≡ written (l .n) (row-with m (l .c) (below (l .d))) (l .entry .list))

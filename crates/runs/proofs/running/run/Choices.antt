@@ -6,8 +6,8 @@ use Rattle.runs.proofs.running.run.Given as given
 
 abbrev pub Inv-steps : given.InvT-steps
 Inv-steps g l =
-  let m = hall-of (g .B·FlightBook .meaning) (g .Q·EventQueue .holds) in
-  Going (time-of (l .goal)) (m (l .entry .floor)) (m (l .floor)) (l .entry .slip) (l .slip) (l .entry .page) (l .page) (l .steps) (l .lines) (l .bytes)
+    let m = hall-of (g .B·FlightBook .meaning) (g .Q·EventQueue .holds) in
+    Going (time-of (l .goal)) (m (l .entry .floor)) (m (l .floor)) (l .entry .slip) (l .slip) (l .entry .page) (l .page) (l .steps) (l .lines) (l .bytes)
 
 abbrev pub μ-steps : given.MeasureT-steps
 μ-steps g l = left (hall-of (g .B·FlightBook .meaning) (g .Q·EventQueue .holds) (l .floor))

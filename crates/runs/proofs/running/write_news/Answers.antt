@@ -16,4 +16,5 @@ returns-in-rest c =
     let e : [] ≡ records (time-of (c .args .time)) (encounter-told (c .args .news)) = sym (ap reported (c .in-rest .is)) ∙ c .report .ensures in
     record {
       used = sym (add-zero (c .args .at)) ∙ ap (λ (r : List ℕ). c .args .at + length r) e;
-      page = sym (written-none (c .args .at) (c .args .page .now)) ∙ ap (λ (r : List ℕ). written (c .args .at) r (c .args .page .now)) e }
+      page = sym (written-none (c .args .at) (c .args .page .now)) ∙ ap (λ (r : List ℕ). written (c .args .at) r (c .args .page .now)) e;
+    }
