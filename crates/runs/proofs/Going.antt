@@ -180,6 +180,19 @@ module _ (goal : Fraction) (m₀ m : Hall) (s₀ s p₀ p : List ℕ) (k n b : �
         count : (c d e o : ℕ) → c + d ≤ e → o < d → c + 1 + o ≤ e
         count c d e o p q = omega arith
 
+-- where 380 lines and 190 numbers are left, a firing fits from the slip's start
+pub step-fits : (f : ℕ) (k : Stamp) (m : Hall) (s : List ℕ) → f < 12352 → 380 ≤ length s → 190 ≤ left m → Fits (fire f k) 0 m s
+step-fits f k m s h p q = record {
+  room = up (length (fire f k m .lines)) (length s) (fire-within f k m h .0 .lines) p;
+  numbers = under (m .last) (fire f k m .hall .last) (fire-within f k m h .0 .most) q;
+}
+  where
+    up : (i j : ℕ) → i ≤ 380 → 380 ≤ j → 0 + i ≤ j
+    up i j p q = omega arith
+
+    under : (i j : ℕ) → j ≤ i + 190 → 190 ≤ 20000000 - i → j ≤ 20000000
+    under i j p q = omega arith
+
 -- a slip and a page keep their lengths
 module _ (goal : Fraction) (i i′ j j′ n b : ℕ) (m : Hall) (e : i ≡ i′) (h : j ≡ j′) where
   pub next-at : (f : ℕ × Stamp) → Next goal (i - n) (j - b) m f → Next goal (i′ - n) (j′ - b) m f

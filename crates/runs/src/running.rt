@@ -1,6 +1,8 @@
 //! A run: steps one after another, until nothing is due.
+ghost use mathlib.Core.Bool.{_||_};
 ghost use mathlib.Core.Path.{_≡_};
-ghost use Prim.Native.Nat.{_+_, _<_, _≤_};
+ghost use Prim.Native.Nat.{_+_, _≤_};
+ghost use lib.Dec.{ltb};
 ghost use lib.ListN.{length};
 ghost use Rattle.std.specs.Results.{Cases};
 ghost use Rattle.times.specs.Of.{time-of, moment-of};
@@ -9,8 +11,6 @@ ghost use Rattle.floor_laws.specs.Writing.{written};
 ghost use Rattle.floor.specs.Of.{hall-of};
 ghost use Rattle.runs.specs.Encounters.{encounter-told};
 ghost use Rattle.runs.specs.Running.{ended-number, reported, Next, Stop, Went};
-ghost use lib.Dec.{ltb};
-ghost use mathlib.Core.Bool.{_||_};
 use crate::encounters::Encounter;
 use crate::ended::Ended;
 use crate::stepping::step;
