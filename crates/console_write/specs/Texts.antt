@@ -7,7 +7,11 @@ use lib.Dec.{eqb}
 use lib.IntN.{ℤ}
 use Rattle.std.specs.Joined.{joined}
 use Rattle.std.specs.Written.{decimal, signed}
+use Rattle.std.specs.declared.option.Option.{Option}
+use Rattle.std.specs.declared.option.Option.the-variants.{Some, None}
 use Rattle.rules.specs.Fractions.{Fraction}
+use Rattle.pages.specs.declared.report.Kind.{Kind}
+use Rattle.pages.specs.declared.report.Kind.the-variants.{Meeting, Parting}
 use Rattle.console_read.specs.declared.gate.Stop.{Stop}
 use Rattle.console_read.specs.declared.gate.Stop.the-variants.{NotOpen, AlreadyOpen, ClockIsQuiet, ClockIsDue}
 
@@ -31,6 +35,16 @@ line-text x = codes " " ++ decimal x
 
 abbrev pub lines-text : List ℕ → List ℕ
 lines-text ls = joined line-text ls
+
+-- the word of a report's kind
+abbrev pub kind-text : Kind → List ℕ
+kind-text Meeting = codes "met"
+kind-text Parting = codes "parted"
+
+-- what a step told
+abbrev pub news-text : Option (Kind × ℕ × ℕ) → List ℕ
+news-text (Some n) = kind-text (n .0) ++ (codes " " ++ (decimal (n .1) ++ (codes " " ++ (decimal (n .2) ++ codes "; "))))
+news-text None = codes "neither; "
 
 abbrev pub yes-text : Bool → List ℕ
 yes-text b = cond b (codes "yes") (codes "no")
