@@ -1,0 +1,4 @@
+pub mod Cues
+pub mod Filings
+pub mod Reading
+pub mod Texts
