@@ -21,6 +21,7 @@ abbrev pub change-text : List ℕ → Option ℕ → List ℕ
 change-text word None = said-text word (codes "ok")
 change-text word (Some r) = refused-text word r
 
-abbrev pub follow-text : Result Bool ℕ → List ℕ
-follow-text (Ok b) = said-text (codes "follows") (yes-text b)
-follow-text (Err r) = refused-text (codes "follows") r
+-- what the follow question answers
+abbrev pub follow-text : List ℕ → Result Bool ℕ → List ℕ
+follow-text word (Ok b) = said-text word (yes-text b)
+follow-text word (Err r) = refused-text word r

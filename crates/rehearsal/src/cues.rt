@@ -1,7 +1,7 @@
 //! The cue sheet: every break tick above 0 of every craft's path, in time order, equal ticks by craft.
 ghost use mathlib.Core.Path.{_≡_};
 ghost use mathlib.Core.List.{_++_};
-ghost use Prim.Native.Nat.{_%_};
+ghost use Prim.Native.Nat.{_+_, _%_};
 ghost use Rattle.std.specs.Of.String.{string-bytes};
 ghost use Rattle.std.specs.Of.Vec.{vec-items};
 ghost use Rattle.std.specs.Vec.{made};
@@ -29,6 +29,13 @@ const FIRST_SLOT: u16 = 12288;
 
 /// More cues than any book has: 64 craft with a break at each tick from 1 to 50,000.
 const MOST: u32 = 3_200_000;
+
+/// The slot of a craft.
+fn slot_of(craft: u8) -> u16
+    ensures { λ r. ⌜ r ≡ 12288 + craft ⌝ }
+{
+    FIRST_SLOT + u16::from(craft)
+}
 
 /// The craft of a slot.
 fn craft_of(slot: u16) -> u8
@@ -62,11 +69,7 @@ fn load<B: FlightBook, Q: EventQueue>(book: &B, queue: &mut Q)
     ensures { λ _. ⌜ Q·EventQueue .holds (now (queue .exit)) ≡ loaded (B·FlightBook .meaning (now (book .entry))) 64 (Q·EventQueue .holds (now (queue .entry))) ⌝ }
 {
     for craft in 0..64u8 {
-        let _ = keep(
-            queue,
-            FIRST_SLOT + u16::from(craft),
-            next_cue(book, craft, Time::zero()),
-        );
+        let _ = keep(queue, slot_of(craft), next_cue(book, craft, Time::zero()));
     }
 }
 
@@ -92,7 +95,7 @@ fn run_out<B: FlightBook, Q: EventQueue>(
 ) -> Result<(), AllocError>
     ensures { λ r. ⌜ made r (λ _. vec-items (now (sheet .exit)) ≡ vec-items (now (sheet .entry)) ++ cues-in 3200000 (B·FlightBook .meaning (now (book .entry))) (Q·EventQueue .holds (now (queue .entry)))) ⌝ }
 {
-    for _ in 0..MOST {
+    for n in 0..MOST {
         let Some(cue) = take_cue(book, queue) else {
             return Ok(());
         };

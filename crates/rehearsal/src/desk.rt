@@ -92,7 +92,7 @@ impl<B: FlightBook, Q: EventQueue> Desk<B, Q> {
             } => self.ride(*craft, *level, *carrier, out),
             Command::Leg { craft, n, d } =>
                 telling::leg(out, leg_asked(&self.book, *craft, *n, *d)),
-            Command::Follows { d, c } => telling::follows(out, self.book.follows(*d, *c)),
+            Command::Follows { d, c } => telling::follows(out, "follows", self.book.follows(*d, *c)),
             Command::Cues => cue_sheet(&self.book, &mut self.queue, &mut self.sheet, out),
             _ => Ok(()),
         }

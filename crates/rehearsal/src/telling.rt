@@ -23,13 +23,13 @@ pub fn change(out: &mut String, word: &str, answer: Result<(), Refusal>) -> fmt:
     }
 }
 
-/// `follows: yes`, `follows: no`, or `follows: refused R`.
-pub fn follows(out: &mut String, answer: Result<bool, Refusal>) -> fmt::Result
-    ensures { λ r. ⌜ made r (λ _. string-bytes (now (out .exit)) ≡ string-bytes (now (out .entry)) ++ follow-text (follow-told answer)) ⌝ }
+/// `WORD: yes`, `WORD: no`, or `WORD: refused R`.
+pub fn follows(out: &mut String, word: &str, answer: Result<bool, Refusal>) -> fmt::Result
+    ensures { λ r. ⌜ made r (λ _. string-bytes (now (out .exit)) ≡ string-bytes (now (out .entry)) ++ follow-text (now (word .entry)) (follow-told answer)) ⌝ }
 {
     match answer {
-        Ok(yes) => yes_no(out, "follows", yes),
-        Err(refusal) => refused(out, "follows", refusal.number()),
+        Ok(yes) => yes_no(out, word, yes),
+        Err(refusal) => refused(out, word, refusal.number()),
     }
 }
 
