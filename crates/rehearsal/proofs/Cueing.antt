@@ -1,7 +1,7 @@
 -- The queue filled with first breaks, and run out.
-use mathlib.Core.Path.{_≡_, refl, sym, ap, subst, _∙_}
+use mathlib.Core.Path.{_≡_, refl, sym, ap, _∙_}
 use mathlib.Core.List.{List, [], _∷_, _++_}
-use Prim.Native.Nat.{ℕ, zero, suc, _+_, _-_, _<_, _≤_}
+use Prim.Native.Nat.{ℕ, zero, suc, _+_, _-_, _<_}
 use native.Mathlib.Numerals.{add-one}
 use native.Mathlib.Omega.{arith}
 use Rattle.std.specs.declared.option.Option.{Option}
@@ -58,10 +58,10 @@ told-more top k b q r xs ys w c h inv et er ey =
     let m : ℕ = top - (k + 1) in
     let e : top - k ≡ suc m = omega arith in
     let told : cues-in (top - k) b q ≡ c ∷ cues-in m b r =
-        ap (λ (x : ℕ). cues-in x b q) e
-        ∙ cues-suc m b q
-        ∙ ap (λ (o : Option Cue). and-so-on o (cues-in m b (cue-left b q (soonest q)))) (sym et)
-        ∙ ap (λ (x : Queue). c ∷ cues-in m b x) (sym er)
+    ap (λ (x : ℕ). cues-in x b q) e
+    ∙ cues-suc m b q
+    ∙ ap (λ (o : Option Cue). and-so-on o (cues-in m b (cue-left b q (soonest q)))) (sym et)
+    ∙ ap (λ (x : Queue). c ∷ cues-in m b x) (sym er)
     in
     ap (λ (x : List Cue). x ++ cues-in m b r) ey
     ∙ append-assoc xs (c ∷ []) (cues-in m b r)

@@ -1,15 +1,11 @@
 -- The cue sheet: what a queue tells as it runs through every craft's breaks.
 use mathlib.Core.Bool.{cond}
-use mathlib.Core.List.{List, [], _∷_, _++_}
+use mathlib.Core.List.{List, [], _∷_}
 use Prim.Native.Nat.{ℕ, zero, suc, _+_, _%_}
-use lib.Chars.{codes}
-use lib.ListN.{length}
 use Rattle.std.specs.declared.option.Option.{Option}
 use Rattle.std.specs.declared.option.Option.the-variants.{Some, None}
 use Rattle.std.specs.declared.result.Result.{Result}
 use Rattle.std.specs.declared.result.Result.the-variants.{Ok, Err}
-use Rattle.std.specs.Joined.{joined}
-use Rattle.std.specs.Written.{decimal}
 use Rattle.rules.specs.Fractions.{Fraction, tick, tick-made, whole}
 use Rattle.rules.specs.Stamps.{Stamp, at}
 use Rattle.rules.specs.Slots.{Queue}
@@ -56,14 +52,3 @@ and-so-on (Some c) cs = c ∷ cs
 unfoldable pub cues-in : ℕ → Book → Queue → List Cue
 cues-in zero b q = []
 cues-in (suc n) b q = and-so-on (cue-told (soonest q)) (cues-in n b (cue-left b q (soonest q)))
-
--- the cues of a book, by way of a queue
-abbrev pub all-cues : Book → Queue → List Cue
-all-cues b q = cues-in 3200000 b (loaded b 64 q)
-
-abbrev pub cue-text : Cue → List ℕ
-cue-text c = codes "  " ++ (decimal (c .tick) ++ (codes " " ++ (decimal (c .craft) ++ codes "\n")))
-
--- the count, and a line for each cue
-abbrev pub sheet-text : List Cue → List ℕ
-sheet-text cs = codes "cues: " ++ (decimal (length cs) ++ codes "\n") ++ joined cue-text cs

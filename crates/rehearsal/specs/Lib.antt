@@ -1,3 +1,4 @@
+pub mod Asking
 pub mod Cues
 pub mod Filings
 pub mod Reading

@@ -2,12 +2,11 @@
 ghost use mathlib.Core.Path.{_≡_};
 ghost use mathlib.Core.List.{_++_};
 ghost use Prim.Native.Nat.{_+_, _%_};
-ghost use Rattle.std.specs.Of.String.{string-bytes};
 ghost use Rattle.std.specs.Of.Vec.{vec-items};
 ghost use Rattle.std.specs.Vec.{made};
 ghost use Rattle.times.specs.Of.{time-of};
 ghost use Rattle.queues.specs.Meanings.{stored, soonest};
-ghost use Rattle.rehearsal.specs.Cues.{tick-stamp, next-stamp, loaded, cue-told, cue-left, cues-in, all-cues, sheet-text};
+ghost use Rattle.rehearsal.specs.Cues.{tick-stamp, next-stamp, loaded, cue-told, cue-left, cues-in};
 use books::FlightBook;
 use console_write::clock;
 use queues::EventQueue;
@@ -105,8 +104,7 @@ fn run_out<B: FlightBook, Q: EventQueue>(
 }
 
 /// `cues: K`, and a line for each cue.
-fn tell(out: &mut String, sheet: &[Cue]) -> fmt::Result
-{
+fn tell(out: &mut String, sheet: &[Cue]) -> fmt::Result {
     clock::cues(out, sheet.len())?;
     for cue in sheet {
         clock::cue(out, cue.tick, cue.craft)?;

@@ -1,4 +1,10 @@
 //! An open console: a book, a queue, and the commands that they answer.
+ghost use mathlib.Core.Path.{_≡_};
+ghost use Rattle.books.specs.Told.{filing as filing-of, seating, leg-told};
+ghost use Rattle.rules.specs.Books.{changed};
+ghost use Rattle.queues.specs.Meanings.{soonest, is-nothing};
+ghost use Rattle.rehearsal.specs.Filings.{typed-plan};
+ghost use Rattle.rehearsal.specs.Asking.{opening-refusal, leg-typed};
 use crate::cues::Cue;
 use crate::cues::cue_sheet;
 use crate::filing::plan;
@@ -31,7 +37,9 @@ pub struct Desk<B: FlightBook, Q: EventQueue> {
 }
 
 /// Why no console opens: the book's scale is above 8, or the queue holds something.
-pub fn opening_refusal<B: FlightBook, Q: EventQueue>(book: &B, queue: &Q) -> Option<Refusal> {
+pub fn opening_refusal<B: FlightBook, Q: EventQueue>(book: &B, queue: &Q) -> Option<Refusal>
+    ensures { λ r. ⌜ r ≡ opening-refusal (B·FlightBook .meaning (now (book .entry)) .scale) (is-nothing (soonest (Q·EventQueue .holds (now (queue .entry))))) ⌝ }
+{
     if book.scale() > 8 {
         return Some(Refusal::Scale);
     }
@@ -42,7 +50,9 @@ pub fn opening_refusal<B: FlightBook, Q: EventQueue>(book: &B, queue: &Q) -> Opt
 }
 
 /// The leg question as it is typed: the craft is looked at first, then the time.
-fn leg_asked<B: FlightBook>(book: &B, craft: u8, n: u32, d: u16) -> Result<LegAnswer, Refusal> {
+fn leg_asked<B: FlightBook>(book: &B, craft: u8, n: u32, d: u16) -> Result<LegAnswer, Refusal>
+    ensures { λ r. ⌜ leg-told r ≡ leg-typed (B·FlightBook .meaning (now (book .entry))) craft n d ⌝ }
+{
     if craft >= 64 {
         return Err(Refusal::CraftRange);
     }
@@ -63,19 +73,17 @@ impl<B: FlightBook, Q: EventQueue> Desk<B, Q> {
     }
 
     /// Files the plan that is typed.
-    fn file(&mut self, filing: &Filing, out: &mut String) -> fmt::Result {
+    fn file(&mut self, filing: &Filing, out: &mut String) -> fmt::Result
+        ensures { λ _. ⌜ B·FlightBook .meaning (now (self .exit) .book) ≡ changed (filing-of (now (filing .entry) .craft) (typed-plan (now (filing .entry)))) (B·FlightBook .meaning (now (self .entry) .book)) ⌝ }
+    {
         let answer = self.book.file(filing.craft, plan(filing));
         telling::change(out, "file", answer)
     }
 
     /// Sets or empties a seat.
-    fn ride(
-        &mut self,
-        craft: u8,
-        level: u8,
-        carrier: Option<u8>,
-        out: &mut String,
-    ) -> fmt::Result {
+    fn ride(&mut self, craft: u8, level: u8, carrier: Option<u8>, out: &mut String) -> fmt::Result
+        ensures { λ _. ⌜ B·FlightBook .meaning (now (self .exit) .book) ≡ changed (seating craft level carrier) (B·FlightBook .meaning (now (self .entry) .book)) ⌝ }
+    {
         let answer = self.book.ride(craft, level, carrier);
         telling::change(out, "ride", answer)
     }
@@ -90,9 +98,15 @@ impl<B: FlightBook, Q: EventQueue> Desk<B, Q> {
                 level,
                 carrier,
             } => self.ride(*craft, *level, *carrier, out),
-            Command::Leg { craft, n, d } =>
-                telling::leg(out, leg_asked(&self.book, *craft, *n, *d)),
-            Command::Follows { d, c } => telling::follows(out, "follows", self.book.follows(*d, *c)),
+            Command::Leg { craft, n, d } => telling::leg(
+                out,
+                leg_asked(&self.book, *craft, *n, *d),
+            ),
+            Command::Follows { d, c } => telling::follows(
+                out,
+                "follows",
+                self.book.follows(*d, *c),
+            ),
             Command::Cues => cue_sheet(&self.book, &mut self.queue, &mut self.sheet, out),
             _ => Ok(()),
         }

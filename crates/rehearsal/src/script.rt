@@ -75,12 +75,11 @@ fn closed(command: &Command, out: &mut String) -> Result<Option<Opening>, fmt::E
             book,
             layers,
             queue,
-        } =>
-            return Ok(Some(Opening {
-                book: *book,
-                layers: *layers,
-                queue: *queue,
-            })),
+        } => return Ok(Some(Opening {
+            book: *book,
+            layers: *layers,
+            queue: *queue,
+        })),
         _ => {}
     }
     Ok(None)

@@ -1,4 +1,3 @@
-use borrow.Author.Needs.{needs}
 use native.Mathlib.Omega.{arith}
 use Rattle.rehearsal.proofs.Cueing.{told-more, told-none, told-out}
 use Rattle.rehearsal.proofs.cues.run_out.Needs as need
