@@ -1,0 +1,2 @@
+pub mod Cueing
+pub mod Legs

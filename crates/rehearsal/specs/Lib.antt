@@ -1,0 +1,5 @@
+pub mod Asking
+pub mod Cues
+pub mod Filings
+pub mod Reading
+pub mod Texts
