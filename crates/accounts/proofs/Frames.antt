@@ -53,9 +53,11 @@ others-around c m p = record {
     self = p;
     range = λ d e. craft-below d (those-in test all-craft d e .0);
     apart = turn-those (λ (x y : ℕ). x < y) test all-craft craft-apart;
-    not-self = λ d e. eqb-false d c (not-true (eqb d c) (and-right (in-hall m d) (not (eqb d c)) (those-in test all-craft d e .1))) };
+    not-self = λ d e. eqb-false d c (not-true (eqb d c) (and-right (in-hall m d) (not (eqb d c)) (those-in test all-craft d e .1)));
+  };
   entered = λ d e. and-left (in-hall m d) (not (eqb d c)) (those-in test all-craft d e .1);
-  all = λ d q e ne. in-those test all-craft d (below-craft d q) (both (in-hall m d) (not (eqb d c)) e (ap not (ne-eqb d c ne))) }
+  all = λ d q e ne. in-those test all-craft d (below-craft d q) (both (in-hall m d) (not (eqb d c)) e (ap not (ne-eqb d c ne)));
+}
   where
     test : ℕ → Bool
     test d = in-hall m d && not (eqb d c)
@@ -69,7 +71,8 @@ pub followers-entered : (c : ℕ) (m : Hall) → Some-entered m (followers c m)
 followers-entered c m = record {
   range = λ d e. craft-below d (those-in (in-hall m) all-craft d (those-in (follows (m .book) c) (entered m) d e .0) .0);
   inside = λ d e. those-in (in-hall m) all-craft d (those-in (follows (m .book) c) (entered m) d e .0) .1;
-  apart = turn-those (λ (x y : ℕ). x < y) (follows (m .book) c) (entered m) (turn-those (λ (x y : ℕ). x < y) (in-hall m) all-craft craft-apart) }
+  apart = turn-those (λ (x y : ℕ). x < y) (follows (m .book) c) (entered m) (turn-those (λ (x y : ℕ). x < y) (in-hall m) all-craft craft-apart);
+}
 
 -- THE CRAFT AFTER EACH MOVE
 
@@ -88,8 +91,8 @@ leave-craft c m = ap (λ (f : ℕ → Option Craft). put f c None) (axes-craft (
 
 pub renew-craft : (c : ℕ) (ds : List ℕ) (k : Stamp) (a : Axis) (h : Hall) → renew c ds k a h .hall .craft ≡ h .craft
 renew-craft c ds k a h =
-  each-craft (λ d. grant-bit a c d k) (λ d n. refl) ds (each (λ d. take-away withdrawn (slot a c d)) ds h .hall)
-  ∙ each-craft (λ d. take-away withdrawn (slot a c d)) (λ d n. refl) ds h
+    each-craft (λ d. grant-bit a c d k) (λ d n. refl) ds (each (λ d. take-away withdrawn (slot a c d)) ds h .hall)
+    ∙ each-craft (λ d. take-away withdrawn (slot a c d)) (λ d n. refl) ds h
 
 pub fire-leg-craft : (c : ℕ) (k : Stamp) (m : Hall) → fire-leg c k m .hall .craft ≡ put (m .craft) c (Some (record { box = craft-of c m .box; leg = leg (path (m .book) c) (k .time) }))
 fire-leg-craft c k m = axes-craft (renew c (others c m) k) (renew-craft c (others c m) k) (read-leg c (craft-of c m .box) k m)

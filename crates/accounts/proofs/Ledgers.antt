@@ -59,37 +59,45 @@ granting s f m ls free h = record {
   turns = turn-more ls y (h .turns) (λ x e q. let o = h .others x e in absurd (omega arith));
   others = λ x e. right x (List·Memᴰ·append-cases ls e);
   open-still = λ j p x e q. still j (eqb j s) p x (List·Memᴰ·append-cases ls e) q;
-  covered = λ n p q. cover n p q (same-or-not n (suc (m .last))) }
+  covered = λ n p q. cover n p q (same-or-not n (suc (m .last)));
+}
   where
     y : ℕ
     y = suc (m .last) * 4 + 1
+
     one : those IsGrant (y ∷ []) ≡ y ∷ []
     one = ap (λ (b : Bool). cond b (y ∷ []) []) (eq-eqb (y % 4) 1 (omega arith))
+
     hollow : (j : ℕ) (b : Bool) → cond b (suc (m .last)) (m .number j) ≡ 0 → cond b f (m .queue j) ≡ None
     hollow j true q = absurd (omega arith)
     hollow j false q = h .empty j q
+
     within : (j : ℕ) (b : Bool) → cond b (suc (m .last)) (m .number j) ≤ suc (m .last)
     within j true = omega arith
     within j false = let k = h .known j in omega arith
+
     distinct : (i j : ℕ) (x y : Bool) → eqb i s ≡ x → eqb j s ≡ y → 1 ≤ cond x (suc (m .last)) (m .number i) → cond x (suc (m .last)) (m .number i) ≡ cond y (suc (m .last)) (m .number j) → i ≡ j
     distinct i j true true p q e g = eqb-true i s p ∙ sym (eqb-true j s q)
     distinct i j true false p q e g = let k = h .known j in absurd (omega arith)
     distinct i j false true p q e g = let k = h .known i in absurd (omega arith)
     distinct i j false false p q e g = h .apart i j e g
+
     right : (x : ℕ) → (x ∈ ls) ⊎ (x ∈ (y ∷ [])) → (1 ≤ x % 4) × (1 ≤ x / 4) × (x / 4 ≤ suc (m .last))
     right x (inl e) = let o = h .others x e in (omega arith, omega arith, omega arith)
     right x (inr e) = let q : x ≡ y = List·Memᴰ·eq-of-singleton e in (omega arith, omega arith, omega arith)
+
     still : (j : ℕ) (b : Bool) → 1 ≤ cond b (suc (m .last)) (m .number j) → (x : ℕ) → (x ∈ ls) ⊎ (x ∈ (y ∷ [])) → x / 4 ≡ cond b (suc (m .last)) (m .number j) → x % 4 ≡ 1
     still j b p x (inr g) q = let u : x ≡ y = List·Memᴰ·eq-of-singleton g in omega arith
     still j true p x (inl g) q = let o = h .others x g in absurd (omega arith)
     still j false p x (inl g) q = h .open-still j p x g q
+
     cover : (n : ℕ) → 1 ≤ n → n ≤ suc (m .last) → (n ≡ suc (m .last)) ⊎ (n ≡ suc (m .last) → ⊥) →
-      ((t : ℕ) × (put (m .number) s (suc (m .last)) t ≡ n)) ⊎ ((fired n ∈ (ls ++ (y ∷ []))) ⊎ (withdrawn n ∈ (ls ++ (y ∷ []))))
+        ((t : ℕ) × (put (m .number) s (suc (m .last)) t ≡ n)) ⊎ ((fired n ∈ (ls ++ (y ∷ []))) ⊎ (withdrawn n ∈ (ls ++ (y ∷ []))))
     cover n p q (inl e) = inl (s, put-here (m .number) s (suc (m .last)) ∙ sym e)
     cover n p q (inr e) = by (h .covered n p (omega arith))
       where
         by : ((t : ℕ) × (m .number t ≡ n)) ⊎ ((fired n ∈ ls) ⊎ (withdrawn n ∈ ls)) →
-          ((t : ℕ) × (put (m .number) s (suc (m .last)) t ≡ n)) ⊎ ((fired n ∈ (ls ++ (y ∷ []))) ⊎ (withdrawn n ∈ (ls ++ (y ∷ []))))
+            ((t : ℕ) × (put (m .number) s (suc (m .last)) t ≡ n)) ⊎ ((fired n ∈ (ls ++ (y ∷ []))) ⊎ (withdrawn n ∈ (ls ++ (y ∷ []))))
         by (inl t) = inl (t .0, put-other (m .number) s (suc (m .last)) (t .0) (λ g. let u : m .number (t .0) ≡ m .number s = ap (m .number) g in let v = t .1 in omega arith) ∙ t .1)
         by (inr (inl g)) = inr (inl (Memᴰ·append-left (y ∷ []) g))
         by (inr (inr g)) = inr (inr (Memᴰ·append-left (y ∷ []) g))
@@ -110,44 +118,54 @@ taking line e s m ls full h = record {
   turns = turn-more ls y (h .turns) (λ x g r. let o = shape in (h .open-still s full x g (omega arith), omega arith));
   others = λ x g. right x (List·Memᴰ·append-cases ls g);
   open-still = λ i p x g r. still i (eqb i s) refl p x (List·Memᴰ·append-cases ls g) r;
-  covered = λ n p q. cover n (h .covered n p q) }
+  covered = λ n p q. cover n (h .covered n p q);
+}
   where
     y : ℕ
     y = line (m .number s)
+
     shape : (y / 4 ≡ m .number s) × (2 ≤ y % 4)
     shape = ended line e (m .number s)
+
     none : those IsGrant (y ∷ []) ≡ []
     none = ap (λ (b : Bool). cond b (y ∷ []) []) (ne-eqb (y % 4) 1 (λ g. let o = shape in omega arith))
+
     hollow : (j : ℕ) (b : Bool) → cond b 0 (m .number j) ≡ 0 → cond b None (m .queue j) ≡ None
     hollow j true q = refl
     hollow j false q = h .empty j q
+
     within : (j : ℕ) (b : Bool) → cond b 0 (m .number j) ≤ m .last
     within j true = omega arith
     within j false = h .known j
+
     distinct : (i j : ℕ) (x y : Bool) → 1 ≤ cond x 0 (m .number i) → cond x 0 (m .number i) ≡ cond y 0 (m .number j) → i ≡ j
     distinct i j true b p q = absurd (omega arith)
     distinct i j false true p q = absurd (omega arith)
     distinct i j false false p q = h .apart i j p q
+
     right : (x : ℕ) → (x ∈ ls) ⊎ (x ∈ (y ∷ [])) → (1 ≤ x % 4) × (1 ≤ x / 4) × (x / 4 ≤ m .last)
     right x (inl g) = h .others x g
     right x (inr g) =
-      let u : x ≡ y = List·Memᴰ·eq-of-singleton g in
-      let o = h .known s in
-      let w = shape in
-      subst (λ (z : ℕ). (1 ≤ z % 4) × (1 ≤ z / 4) × (z / 4 ≤ m .last)) (sym u) (omega arith, omega arith, omega arith)
+        let u : x ≡ y = List·Memᴰ·eq-of-singleton g in
+        let o = h .known s in
+        let w = shape in
+        subst (λ (z : ℕ). (1 ≤ z % 4) × (1 ≤ z / 4) × (z / 4 ≤ m .last)) (sym u) (omega arith, omega arith, omega arith)
+
     still : (i : ℕ) (b : Bool) → eqb i s ≡ b → 1 ≤ cond b 0 (m .number i) → (x : ℕ) → (x ∈ ls) ⊎ (x ∈ (y ∷ [])) → x / 4 ≡ cond b 0 (m .number i) → x % 4 ≡ 1
     still i true q p x g r = absurd (omega arith)
     still i false q p x (inl g) r = h .open-still i p x g r
     still i false q p x (inr g) r =
-      let u : x ≡ y = List·Memᴰ·eq-of-singleton g in
-      let v : x / 4 ≡ y / 4 = ap (λ (z : ℕ). z / 4) u in
-      let w = shape in
-      absurd (eqb-false i s q (h .apart i s p (omega arith)))
+        let u : x ≡ y = List·Memᴰ·eq-of-singleton g in
+        let v : x / 4 ≡ y / 4 = ap (λ (z : ℕ). z / 4) u in
+        let w = shape in
+        absurd (eqb-false i s q (h .apart i s p (omega arith)))
+
     kind : (n : ℕ) → m .number s ≡ n → Ends line → (fired n ∈ (ls ++ (y ∷ []))) ⊎ (withdrawn n ∈ (ls ++ (y ∷ [])))
     kind n q (inl g) = inl (Memᴰ·append-right ls (List·Memᴰ·head (sym (ap (λ (f : ℕ → ℕ). f (m .number s)) g ∙ ap fired q))))
     kind n q (inr g) = inr (Memᴰ·append-right ls (List·Memᴰ·head (sym (ap (λ (f : ℕ → ℕ). f (m .number s)) g ∙ ap withdrawn q))))
+
     cover : (n : ℕ) → ((t : ℕ) × (m .number t ≡ n)) ⊎ ((fired n ∈ ls) ⊎ (withdrawn n ∈ ls)) →
-      ((t : ℕ) × (put (m .number) s 0 t ≡ n)) ⊎ ((fired n ∈ (ls ++ (y ∷ []))) ⊎ (withdrawn n ∈ (ls ++ (y ∷ []))))
+        ((t : ℕ) × (put (m .number) s 0 t ≡ n)) ⊎ ((fired n ∈ (ls ++ (y ∷ []))) ⊎ (withdrawn n ∈ (ls ++ (y ∷ []))))
     cover n (inl t) = by (same-or-not (t .0) s)
       where
         by : (t .0 ≡ s) ⊎ (t .0 ≡ s → ⊥) → ((t : ℕ) × (put (m .number) s 0 t ≡ n)) ⊎ ((fired n ∈ (ls ++ (y ∷ []))) ⊎ (withdrawn n ∈ (ls ++ (y ∷ []))))

@@ -6,5 +6,6 @@ pub mod Kept
 pub mod Frames
 pub mod Counts
 pub mod Sound
+pub mod Agrees
 pub mod Accounts
 pub mod Ends

@@ -48,6 +48,7 @@ those-in {A} p (y ∷ ys) x e = by (λ g. those-in p ys x g) (p y) refl e
     pick : (x ∈ those p ys → (x ∈ ys) × (p x ≡ true)) → p y ≡ true → (x ≡ y) ⊎ (x ∈ those p ys) → (x ∈ (y ∷ ys)) × (p x ≡ true)
     pick more q (inl r) = (List·Memᴰ·head r, ap p r ∙ q)
     pick more q (inr r) = (List·Memᴰ·tail (more r .0), more r .1)
+
     by : (x ∈ those p ys → (x ∈ ys) × (p x ≡ true)) → (b : Bool) → p y ≡ b → x ∈ cond b (y ∷ those p ys) (those p ys) → (x ∈ (y ∷ ys)) × (p x ≡ true)
     by more false q e = (List·Memᴰ·tail (more e .0), more e .1)
     by more true q e = pick more q (List·Memᴰ·cases-cons e)

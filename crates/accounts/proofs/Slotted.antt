@@ -42,7 +42,7 @@ settled v [] W s = inr (λ e. List·Memᴰ·not-nil e, refl)
 settled v (t ∷ ts) W s = by (settled v ts (put W t v) s) (same-or-not s t)
   where
     by : ((s ∈ ts) × (set-all v ts (put W t v) s ≡ v)) ⊎ ((s ∈ ts → ⊥) × (set-all v ts (put W t v) s ≡ put W t v s)) → (s ≡ t) ⊎ (s ≡ t → ⊥) →
-      ((s ∈ (t ∷ ts)) × (set-all v ts (put W t v) s ≡ v)) ⊎ ((s ∈ (t ∷ ts) → ⊥) × (set-all v ts (put W t v) s ≡ W s))
+        ((s ∈ (t ∷ ts)) × (set-all v ts (put W t v) s ≡ v)) ⊎ ((s ∈ (t ∷ ts) → ⊥) × (set-all v ts (put W t v) s ≡ W s))
     by (inl h) q = inl (List·Memᴰ·tail (h .0), h .1)
     by (inr h) (inl q) = inl (List·Memᴰ·head q, h .1 ∙ ap (put W t v) q ∙ put-here W t v)
     by (inr h) (inr q) = inr (λ e. out (List·Memᴰ·cases-cons e), h .1 ∙ put-other W t v s q)
@@ -109,28 +109,30 @@ module _ (c : ℕ) (ds : List ℕ) (o : Others c ds) where
 
   pub axis-range : (a : Axis) (s : ℕ) → s ∈ axis-slots c ds a → (4096 * rank a ≤ s) × (s < 4096 * rank a + 4096)
   axis-range a s e =
-    let w = in-axis a s e in
-    let h = slot-low a c (w .0) in
-    let k = slot-high a c (w .0) (o .self) (o .range (w .0) (w .1)) in
-    let q : slot a c (w .0) ≡ s = w .2 in
-    (subst (λ (t : ℕ). 4096 * rank a ≤ t) q h, subst (λ (t : ℕ). t < 4096 * rank a + 4096) q k)
+      let w = in-axis a s e in
+      let h = slot-low a c (w .0) in
+      let k = slot-high a c (w .0) (o .self) (o .range (w .0) (w .1)) in
+      let q : slot a c (w .0) ≡ s = w .2 in
+      (subst (λ (t : ℕ). 4096 * rank a ≤ t) q h, subst (λ (t : ℕ). t < 4096 * rank a + 4096) q k)
 
   pub axis-apart : (a : Axis) → Apart (axis-slots c ds a)
   axis-apart a = turn-map (λ (x y : ℕ). x < y) (λ (x y : ℕ). x < y) (slot a c) ds (λ d e p q h. slot-rises a c d e (o .self) (o .range d p) (o .range e q) h) (o .apart)
 
   pub craft-apart : Apart (craft-slots c ds)
   craft-apart =
-    turn-append R (axis-slots c ds X) _ (axis-apart X)
+      turn-append R (axis-slots c ds X) _ (axis-apart X)
       (turn-append R (axis-slots c ds Y) _ (axis-apart Y)
-        (turn-append R (axis-slots c ds Z) _ (axis-apart Z) (turn-one R (leg-slot c)) (λ x y p q. let g = axis-range Z x p in let k : y ≡ leg-slot c = List·Memᴰ·eq-of-singleton q in omega arith))
-        (λ x y p q. let g = axis-range Y x p in let k = z-later y (List·Memᴰ·append-cases (axis-slots c ds Z) q) in omega arith))
+      (turn-append R (axis-slots c ds Z) _ (axis-apart Z) (turn-one R (leg-slot c)) (λ x y p q. let g = axis-range Z x p in let k : y ≡ leg-slot c = List·Memᴰ·eq-of-singleton q in omega arith))
+      (λ x y p q. let g = axis-range Y x p in let k = z-later y (List·Memᴰ·append-cases (axis-slots c ds Z) q) in omega arith))
       (λ x y p q. let g = axis-range X x p in let k = y-later y (List·Memᴰ·append-cases (axis-slots c ds Y) q) in omega arith)
     where
       R : ℕ → ℕ → Type 0
       R x y = x < y
+
       z-later : (y : ℕ) → (y ∈ axis-slots c ds Z) ⊎ (y ∈ (leg-slot c ∷ [])) → 8192 ≤ y
       z-later y (inl e) = let g = axis-range Z y e in omega arith
       z-later y (inr e) = let k : y ≡ leg-slot c = List·Memᴰ·eq-of-singleton e in omega arith
+
       y-later : (y : ℕ) → (y ∈ axis-slots c ds Y) ⊎ (y ∈ (axis-slots c ds Z ++ (leg-slot c ∷ []))) → 4096 ≤ y
       y-later y (inl e) = let g = axis-range Y y e in omega arith
       y-later y (inr e) = let k = z-later y (List·Memᴰ·append-cases (axis-slots c ds Z) e) in omega arith

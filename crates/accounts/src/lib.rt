@@ -1,10 +1,17 @@
 //! The accounts of the hall, over every list of calls; the lines and numbers that each move takes at most; and that runs end.
 ghost use Rattle.accounts.specs.Bounds.{Change-within, Enter-within, Fire-within, Leave-within};
-ghost use Rattle.accounts.specs.Laws.{Accounts-hold, Runs-end};
+ghost use Rattle.accounts.specs.Laws.{Accounts-hold, Histories-agree, Runs-end};
 
 /// Over every book and every list of calls: the numbers granted, their lines, their fates, and the slots and the queue that hold them.
 pub fn accounts_stand() -> u8
     ensures { λ _. ⌜ Accounts-hold ⌝ }
+{
+    0
+}
+
+/// Over every book and every list of calls: the clock, the book and the boxes that a history tells are those of the state.
+pub fn histories_stand() -> u8
+    ensures { λ _. ⌜ Histories-agree ⌝ }
 {
     0
 }

@@ -43,9 +43,11 @@ questions-alter-nothing z = (λ t c d. touch t c d (refusal (touching t c d) z),
     touch : (t : Fraction) (c d : ℕ) (o : Option ℕ) → unless o (touching t c d) z .state ≡ z
     touch t c d None = refl
     touch t c d (Some n) = refl
+
     list : (t : Fraction) (room : ℕ) (o : Option ℕ) → unless o (listing t room) z .state ≡ z
     list t room None = refl
     list t room (Some n) = refl
+
     ask : (s : ℕ) (o : Option ℕ) → unless o (asking s) z .state ≡ z
     ask s None = refl
     ask s (Some n) = refl

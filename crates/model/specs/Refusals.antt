@@ -34,48 +34,48 @@ pairs m = joined (map (pairs-of m) (entered m))
 -- the rows of a change, with a slip of that length
 abbrev pub change-rows : Change → (slip : ℕ) → Hall → List (ℕ × Bool)
 change-rows (entering c b) slip m =
-  (2, out-of-range c) ∷
-  (4, in-hall m c) ∷
-  (6, not (box-right b)) ∷
-  (15, ltb slip 190) ∷
-  (16, ltb (left m) 190) ∷ []
+    (2, out-of-range c) ∷
+    (4, in-hall m c) ∷
+    (6, not (box-right b)) ∷
+    (15, ltb slip 190) ∷
+    (16, ltb (left m) 190) ∷ []
 change-rows (leaving c) slip m =
-  (2, out-of-range c) ∷
-  (5, not (in-hall m c)) ∷
-  (15, ltb slip 190) ∷ []
+    (2, out-of-range c) ∷
+    (5, not (in-hall m c)) ∷
+    (15, ltb slip 190) ∷ []
 -- a book's own rows stand between: 2, 8, 9 for a filing, and 2, 3, 10 for a ride
 change-rows (booking x) slip m = book-rows x (m .book) ++ (
-  (15, ltb slip 12224) ∷
-  (16, ltb (left m) 6112) ∷ [])
+    (15, ltb slip 12224) ∷
+    (16, ltb (left m) 6112) ∷ [])
 
 -- the rows of a call
 abbrev pub rows : Call → State → List (ℕ × Bool)
 rows (changing t x slip) z =
-  (1, not-mine z (quiet t)) ∷ change-rows x slip (z .hall)
+    (1, not-mine z (quiet t)) ∷ change-rows x slip (z .hall)
 rows (setting t n d) z =
-  (1, not-mine z (quiet t)) ∷
-  (11, no-time n d) ∷
-  (12, is-before (record { num = n; den = d }) t) ∷ []
+    (1, not-mine z (quiet t)) ∷
+    (11, no-time n d) ∷
+    (12, is-before (record { num = n; den = d }) t) ∷ []
 rows (stepping t g slip) z =
-  (1, not-mine z (due t g)) ∷
-  (13, not (isSome (next-due g (z .hall)))) ∷
-  (15, ltb slip 380) ∷
-  (16, ltb (left (z .hall)) 190) ∷ []
+    (1, not-mine z (due t g)) ∷
+    (13, not (isSome (next-due g (z .hall)))) ∷
+    (15, ltb slip 380) ∷
+    (16, ltb (left (z .hall)) 190) ∷ []
 rows (running t g slip page) z =
-  (1, not-mine z (due t g)) ∷ []
+    (1, not-mine z (due t g)) ∷ []
 rows (resting t g) z =
-  (1, not-mine z (due t g)) ∷
-  (14, isSome (next-due g (z .hall))) ∷ []
+    (1, not-mine z (due t g)) ∷
+    (14, isSome (next-due g (z .hall))) ∷ []
 rows (touching t c d) z =
-  (1, not-mine z (quiet t)) ∷
-  (2, out-of-range c || out-of-range d) ∷
-  (3, eqb c d) ∷
-  (5, not (in-hall (z .hall) c && in-hall (z .hall) d)) ∷ []
+    (1, not-mine z (quiet t)) ∷
+    (2, out-of-range c || out-of-range d) ∷
+    (3, eqb c d) ∷
+    (5, not (in-hall (z .hall) c && in-hall (z .hall) d)) ∷ []
 rows (listing t room) z =
-  (1, not-mine z (quiet t)) ∷
-  (15, ltb room (length (pairs (z .hall)))) ∷ []
+    (1, not-mine z (quiet t)) ∷
+    (15, ltb room (length (pairs (z .hall)))) ∷ []
 rows (asking s) z =
-  (7, ltb 12351 s) ∷ []
+    (7, ltb 12351 s) ∷ []
 
 abbrev pub refusal : Call → State → Option ℕ
 refusal call z = first-fit (rows call z)

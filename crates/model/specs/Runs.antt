@@ -37,7 +37,8 @@ step s k m = let o = fire s k m in record {
   out = o;
   number = m .number s;
   time = k .time;
-  news = cond (ltb s 12288) (news-in s m (o .hall)) None }
+  news = cond (ltb s 12288) (news-in s m (o .hall)) None;
+}
 
 -- the page record of a step's news, if there is any
 abbrev pub records : Fraction → Option News → List ℕ

@@ -41,7 +41,7 @@ answer r lines page = record { result = accepted r; lines = lines; list = []; pa
 -- the answers to those four calls
 abbrev pub going : ℕ → ℕ → ℕ → List ℕ → List ℕ → Bool → List Answer
 going s t steps lines page touch =
-  answer (clock (due (tick s) (tick t))) [] [] ∷ answer (ran 0 steps) lines page ∷ answer (clock (quiet (tick t))) [] [] ∷ answer (touches touch) [] [] ∷ []
+    answer (clock (due (tick s) (tick t))) [] [] ∷ answer (ran 0 steps) lines page ∷ answer (clock (quiet (tick t))) [] [] ∷ answer (touches touch) [] [] ∷ []
 
 abbrev pub answers : Book → List Call → List Answer
 answers b calls = map (λ (e : Event). e .answer) (events calls (opened b))
@@ -49,19 +49,19 @@ answers b calls = map (λ (e : Event). e .answer) (events calls (opened b))
 -- rows 1 to 5, over the single-leg book
 abbrev pub Rows-1-to-5 : Type 0
 Rows-1-to-5 =
-  answers (empty-book 1) (opening (from-100 (along-x 0 (negℤ (pos 3)) ∷ []) 60) ++ (on-to 0 30 ++ (on-to 30 40 ++ on-to 40 50)))
-  ≡ answer done [] []
-  ∷ answer done (5 ∷ []) []
-  ∷ answer done (9 ∷ 13 ∷ 17 ∷ 21 ∷ []) []
-  ∷ going 0 30 1 (10 ∷ 25 ∷ []) (0x01 ∷ 0x00 ∷ 0x08 ∷ 0x00 ∷ 0x01 ∷ 0x00 ∷ 0x00 ∷ 0x00 ∷ 0x50 ∷ 0x00 ∷ 0x03 ∷ []) true
-  ++ (going 30 40 0 [] [] true
-  ++ going 40 50 1 (26 ∷ 29 ∷ []) (0x02 ∷ 0x00 ∷ 0x08 ∷ 0x00 ∷ 0x01 ∷ 0x00 ∷ 0x00 ∷ 0x00 ∷ 0x28 ∷ 0x00 ∷ 0x01 ∷ []) false)
+    answers (empty-book 1) (opening (from-100 (along-x 0 (negℤ (pos 3)) ∷ []) 60) ++ (on-to 0 30 ++ (on-to 30 40 ++ on-to 40 50)))
+    ≡ answer done [] []
+    ∷ answer done (5 ∷ []) []
+    ∷ answer done (9 ∷ 13 ∷ 17 ∷ 21 ∷ []) []
+    ∷ going 0 30 1 (10 ∷ 25 ∷ []) (0x01 ∷ 0x00 ∷ 0x08 ∷ 0x00 ∷ 0x01 ∷ 0x00 ∷ 0x00 ∷ 0x00 ∷ 0x50 ∷ 0x00 ∷ 0x03 ∷ []) true
+    ++ (going 30 40 0 [] [] true
+    ++ going 40 50 1 (26 ∷ 29 ∷ []) (0x02 ∷ 0x00 ∷ 0x08 ∷ 0x00 ∷ 0x01 ∷ 0x00 ∷ 0x00 ∷ 0x00 ∷ 0x28 ∷ 0x00 ∷ 0x01 ∷ []) false)
 
 -- row 6, over the itinerary book: meeting and parting both at 10
 abbrev pub Row-6 : Type 0
 Row-6 =
-  reports (events (opening (from-100 (along-x 0 (negℤ (pos 8)) ∷ along-x 10 (pos 8) ∷ []) 20) ++ on-to 0 30) (opened (empty-book 8)))
-  ≡ record { time = tick 10; news = met 0 1 } ∷ record { time = tick 10; news = parted 0 1 } ∷ []
+    reports (events (opening (from-100 (along-x 0 (negℤ (pos 8)) ∷ along-x 10 (pos 8) ∷ []) 20) ++ on-to 0 30) (opened (empty-book 8)))
+    ≡ record { time = tick 10; news = met 0 1 } ∷ record { time = tick 10; news = parted 0 1 } ∷ []
 
 abbrev pub Small-show : Type 0
 Small-show = Rows-1-to-5 × Row-6

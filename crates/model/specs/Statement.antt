@@ -10,13 +10,14 @@ use Rattle.std.specs.declared.option.Option.{Option}
 use Rattle.std.specs.declared.option.Option.the-variants.{Some, None}
 use Rattle.rules.specs.Basics.{_∈_, those, below, InTurn}
 use Rattle.rules.specs.Fractions.{Fraction, Proper, Before, NotAfter, SameTime, Usual}
-use Rattle.rules.specs.Stamps.{Stamp}
-use Rattle.rules.specs.Books.{Book, path, Lawful}
-use Rattle.rules.specs.Boxes.{Box, Touch, Meets, Parts}
-use Rattle.rules.specs.Slots.{Queue}
+use Rattle.rules.specs.Stamps.{Stamp, at}
+use Rattle.rules.specs.Paths.{Axis, leg}
+use Rattle.rules.specs.Books.{Book, path, break-after, Lawful}
+use Rattle.rules.specs.Boxes.{Box, ends, overlap, Fails, Touch, Meets, Parts}
+use Rattle.rules.specs.Slots.{Queue, slot, leg-slot}
 use Rattle.rules.specs.Pages.{News, met, parted, Report, page-of, page-read}
 use Rattle.model.specs.Halls.{quiet, Certificate, opened}
-use Rattle.model.specs.Moves.{granted, fired, withdrawn}
+use Rattle.model.specs.Moves.{granted, fired, withdrawn, at-break}
 use Rattle.model.specs.Calls.{Call, touching, listing, asking, done, touches, certificate, accepted, Answer}
 use Rattle.model.specs.Performing.{perform}
 use Rattle.model.specs.Histories.{Event, events, after, lines-told, changes, book-now, boxes-now, clock-now, reports}
@@ -48,6 +49,16 @@ TellsNumber b calls s n = (f : Option Stamp) × Tells b calls s (Some (record { 
 abbrev pub Stands : Book → List Call → ℕ → Type 0
 Stands b calls n = (s : ℕ) × TellsNumber b calls s n
 
+-- a craft is entered now
+abbrev pub IsIn : Book → List Call → ℕ → Type 0
+IsIn b calls c = (k : Box) × (boxes-now (changes (story b calls)) c ≡ Some k)
+
+-- a slot is that of an entered craft's leg, or of two entered craft on an axis
+abbrev pub OfEntered : Book → List Call → ℕ → Type 0
+OfEntered b calls s =
+    ((c : ℕ) × IsIn b calls c × (s ≡ leg-slot c)) ⊎
+    ((a : Axis) × (c : ℕ) × (d : ℕ) × (c < d) × IsIn b calls c × IsIn b calls d × (s ≡ slot a c d))
+
 abbrev pub ExactlyOne : Type 0 → Type 0 → Type 0 → Type 0
 ExactlyOne P Q R = (P × ¬ Q × ¬ R) ⊎ ((¬ P × Q × ¬ R) ⊎ (¬ P × ¬ Q × R))
 
@@ -64,16 +75,32 @@ pub record Accounts (b : Book) (calls : List Call) : Type 0 where
   pub known : (n : ℕ) → Stands b calls n → (1 ≤ n) × (n ≤ last)
   -- no two slots tell one number
   pub apart : (s t n : ℕ) → TellsNumber b calls s n → TellsNumber b calls t n → s ≡ t
+  -- exactly the slots of the entered craft and pairs tell one
+  pub slots : (s : ℕ) → ((n : ℕ) × TellsNumber b calls s n) ↔ OfEntered b calls s
   -- the queue holds a moment in a slot exactly where that slot tells a number with this moment, and nothing above the last slot
   pub queued : (s : ℕ) (k : Stamp) → (queue-after b calls s ≡ Some k) ↔ ((n : ℕ) × Tells b calls s (Some (record { number = n; fails = Some k })))
   pub no-more : (s : ℕ) → 12352 ≤ s → queue-after b calls s ≡ None
+
+-- When a certificate fails, told with a quiet clock at t.
+pub record Certificates (b : Book) (calls : List Call) : Type 0 where
+  -- that of a pair on an axis: at the first moment, over all fractions, at which the two do not overlap there as they do at t,
+  -- on the legs that their paths are on at t; or never
+  pub pairs : (t : Fraction) → clock-now (story b calls) ≡ quiet t → (a : Axis) (c d n : ℕ) (f : Option Stamp) → c < d →
+      Tells b calls (slot a c d) (Some (record { number = n; fails = f })) →
+      let xs = changes (story b calls) in (k l : Box) → boxes-now xs c ≡ Some k → boxes-now xs d ≡ Some l →
+      let p = ends k a (leg (path (book-now b xs) c) t a) in let q = ends l a (leg (path (book-now b xs) d) t a) in
+      Fails (overlap p q (at t)) p q (at t) f
+  -- that of a craft's leg: at side 0 of the first break of its path after t, or never
+  pub legs : (t : Fraction) → clock-now (story b calls) ≡ quiet t → (c n : ℕ) (f : Option Stamp) →
+      Tells b calls (leg-slot c) (Some (record { number = n; fails = f })) →
+      f ≡ at-break (break-after (book-now b (changes (story b calls))) c t)
 
 -- TOUCHING
 
 -- P is so of the boxes of c and d, which are entered, on the paths of the book now
 abbrev pub OfPair : Book → List Call → ℕ → ℕ → ((Fraction → Type 0) → Type 0) → Type 0
 OfPair b calls c d P = let xs = changes (story b calls) in
-  (k : Box) × (l : Box) × (boxes-now xs c ≡ Some k) × (boxes-now xs d ≡ Some l) × P (Touch (path (book-now b xs) c) k (path (book-now b xs) d) l)
+    (k : Box) × (l : Box) × (boxes-now xs c ≡ Some k) × (boxes-now xs d ≡ Some l) × P (Touch (path (book-now b xs) c) k (path (book-now b xs) d) l)
 
 abbrev pub TouchAt : Book → List Call → Fraction → ℕ → ℕ → Type 0
 TouchAt b calls t c d = OfPair b calls c d (λ touch. touch t)
@@ -81,12 +108,12 @@ TouchAt b calls t c d = OfPair b calls c d (λ touch. touch t)
 pub record Touching (b : Book) (calls : List Call) : Type 0 where
   -- with a quiet clock at t the touching question, unless refused, tells whether the two touch at t
   pub asked : (t : Fraction) → clock-now (story b calls) ≡ quiet t → (c d : ℕ) (yes : Bool) →
-    next-answer b calls (touching t c d) .result ≡ accepted (touches yes) → (yes ≡ true) ↔ TouchAt b calls t c d
+      next-answer b calls (touching t c d) .result ≡ accepted (touches yes) → (yes ≡ true) ↔ TouchAt b calls t c d
   -- and the list, unless refused, has exactly the pairs that touch at t, each lower number first, ascending
   pub listed : (t : Fraction) → clock-now (story b calls) ≡ quiet t → (room : ℕ) →
-    next-answer b calls (listing t room) .result ≡ accepted done →
-    let list = next-answer b calls (listing t room) .list in
-    InTurn (λ x y. x < y) list × ((x : ℕ) → (x ∈ list) ↔ ((c : ℕ) × (d : ℕ) × (c < d) × (x ≡ c * 64 + d) × TouchAt b calls t c d))
+      next-answer b calls (listing t room) .result ≡ accepted done →
+      let list = next-answer b calls (listing t room) .list in
+      InTurn (λ x y. x < y) list × ((x : ℕ) → (x ∈ list) ↔ ((c : ℕ) × (d : ℕ) × (c < d) × (x ≡ c * 64 + d) × TouchAt b calls t c d))
 
 -- REPORTS
 
@@ -114,18 +141,18 @@ pub record InOrder (r q : Report) : Type 0 where
 pub record Reports (b : Book) (calls : List Call) : Type 0 where
   -- what is told happens, at that time in least terms
   pub true-told : (more : List Call) (s t : Fraction) → Onward b calls more s t → (r : Report) → r ∈ reports (further b calls more) →
-    Usual (r .time) × Happens b calls s t (r .news) (r .time)
+      Usual (r .time) × Happens b calls s t (r .news) (r .time)
   -- what happens, at whatever fraction, is told
   pub all-told : (more : List Call) (s t : Fraction) → Onward b calls more s t → (w : News) (u : Fraction) → Proper u → Happens b calls s t w u →
-    (r : Report) × (r ∈ reports (further b calls more)) × (r .news ≡ w) × SameTime (r .time) u
+      (r : Report) × (r ∈ reports (further b calls more)) × (r .news ≡ w) × SameTime (r .time) u
   pub ordered : (more : List Call) (s t : Fraction) → Onward b calls more s t → InTurn InOrder (reports (further b calls more))
   -- two ways on to one time tell the same, wherever they rest, step or run
   pub same : (more other : List Call) (s t : Fraction) → Onward b calls more s t → Onward b calls other s t →
-    reports (further b calls more) ≡ reports (further b calls other)
+      reports (further b calls more) ≡ reports (further b calls other)
   -- a page reads back as reports, and holds their records, whole, and nothing else
   pub pages : (e : Event) → e ∈ story b calls → (rs : List Report) × (page-read (e .answer .page) ≡ Some rs) × (e .answer .page ≡ page-of rs)
 
 -- THE WHOLE
 
 abbrev pub Promise : Type 0
-Promise = (b : Book) → Lawful b → b .scale ≤ 8 → (calls : List Call) → Accounts b calls × Touching b calls × Reports b calls
+Promise = (b : Book) → Lawful b → b .scale ≤ 8 → (calls : List Call) → Accounts b calls × Certificates b calls × Touching b calls × Reports b calls
