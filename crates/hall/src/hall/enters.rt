@@ -50,7 +50,9 @@ impl<B: FlightBook, Q: EventQueue> Hall<B, Q> {
         if let Some(e) = self.refuses_enter(q, craft, half, slip.len()) {
             return Err(e);
         }
-        let sizes = HalfSizes::new(half.0, half.1, half.2)?;
+        let Ok(sizes) = HalfSizes::new(half.0, half.1, half.2) else {
+            return Err(Refusal::HalfSize);
+        };
         Ok(self.floor.enter(craft, sizes, Moment::at(q.at), slip, 0))
     }
 
