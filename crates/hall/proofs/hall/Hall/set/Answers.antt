@@ -13,7 +13,7 @@ returns-then-before g c =
     let t = time-of (c .args .q .at) in
     let u = time-of (c .in-Ok .goal) in
     record {
-      performed = refused-performed (setting t (c .args .n) (c .args .d)) z 12 (set-past t (c .args .n) (c .args .d) z u (c .knows .ensures ∙ ap not (c .if-not-knows .left)) (sym (ap time-told (c .in-Ok .is)) ∙ c .new .ensures) (sym (c .before .ensures) ∙ c .if-before .taken));
+      performed = refused-performed (setting t (c .args .n) (c .args .d)) z 12 (set-past t (c .args .n) (c .args .d) z u (c .knows .ensures ∙ ap not (c .if-not-knows .left)) (sym (ap time-told (c .in-Ok .is)) ∙ c .new .ensures) (sym (c .before-2 .ensures) ∙ c .if-before .taken));
       back = refl }
 
 pub returns : need.returns
@@ -22,5 +22,5 @@ returns g c =
     let t = time-of (c .args .q .at) in
     let u = time-of (c .in-Ok .goal) in
     record {
-      performed = set-performed (c .args .self .now .time) (c .args .self .now .goal) t u (c .args .n) (c .args .d) (z .hall) (c .knows .ensures ∙ ap not (c .if-not-knows .left)) (sym (ap time-told (c .in-Ok .is)) ∙ c .new .ensures) (sym (c .before .ensures) ∙ c .if-before .left);
+      performed = set-performed (c .args .self .now .time) (c .args .self .now .goal) t u (c .args .n) (c .args .d) (z .hall) (c .knows .ensures ∙ ap not (c .if-not-knows .left)) (sym (ap time-told (c .in-Ok .is)) ∙ c .new .ensures) (sym (c .before-2 .ensures) ∙ c .if-before .left);
       back = tt }
