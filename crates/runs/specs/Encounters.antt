@@ -4,10 +4,11 @@ use Prim.Native.Nat.{ℕ}
 use lib.Dec.{leb, ltb}
 use Rattle.std.specs.declared.option.Option.{Option}
 use Rattle.std.specs.declared.option.Option.the-variants.{Some, None}
+use Rattle.rules.specs.Paths as path
 use Rattle.rules.specs.Pages.{News, met, parted}
 use Rattle.geometry.specs.declared.axis.Axis.{Axis}
 use Rattle.geometry.specs.declared.axis.Axis.the-variants.{X, Y, Z}
-use Rattle.model.specs.Moves.{lower-of, higher-of}
+use Rattle.model.specs.Moves.{axis-of, lower-of, higher-of}
 use Rattle.model.specs.Runs.{news}
 use Rattle.runs.specs.declared.encounters.Certificate.{Certificate}
 use Rattle.runs.specs.declared.encounters.Certificate.the-variants.{Bit, Leg}
@@ -38,9 +39,12 @@ abbrev pub news-of : Certificate → Bits → Option News
 news-of (Bit a c d) b = news (all-set b) (all-set (turned a b)) c d
 news-of Leg b = None
 
-abbrev pub axis-named : ℕ → Axis
-axis-named s = cond (ltb s 4096) X (cond (ltb s 8192) Y Z)
+-- the code's name of an axis
+abbrev pub code-axis : path.Axis → Axis
+code-axis path.X = X
+code-axis path.Y = Y
+code-axis path.Z = Z
 
 -- what a slot's certificate is of
 abbrev pub certificate-at : ℕ → Certificate
-certificate-at s = cond (leb 12288 s || ltb (higher-of s) (lower-of s)) Leg (Bit (axis-named s) (lower-of s) (higher-of s))
+certificate-at s = cond (leb 12288 s || ltb (higher-of s) (lower-of s)) Leg (Bit (code-axis (axis-of s)) (lower-of s) (higher-of s))

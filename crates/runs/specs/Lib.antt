@@ -1,1 +1,3 @@
 pub mod Encounters
+pub mod Running
+pub mod Listing

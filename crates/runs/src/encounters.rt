@@ -2,7 +2,6 @@
 ghost use mathlib.Core.Path.{_≡_};
 ghost use Prim.Native.Nat.{_<_};
 ghost use Rattle.runs.specs.Encounters.{encounter-told, news-of, certificate-at};
-
 use floor::leaves::axis_at;
 use floor::leaves::higher_at;
 use floor::leaves::lower_at;
@@ -38,7 +37,7 @@ pub fn certificate_at(slot: u16) -> Certificate
 /// What a firing tells, by the certificate, the side of its moment and the bits on x, y and z before it.
 /// A bit's firing changes that bit and no other: two craft part where all three were set, and meet where the other two are.
 /// Bits are set at side 0 and cleared at side 1; the bits alone tell which of these it is, so every side is taken alike.
-pub fn encounter(certificate: Certificate, after: bool, bits: (bool, bool, bool)) -> Encounter
+pub fn decide(certificate: Certificate, after: bool, bits: (bool, bool, bool)) -> Encounter
     ensures { λ r. ⌜ encounter-told r ≡ news-of certificate bits ⌝ }
 {
     match (certificate, after, bits) {

@@ -1,0 +1,4 @@
+pub mod Telling
+pub mod Nexts
+pub mod Going
+pub mod Rows
