@@ -6,17 +6,19 @@ use Prim.Native.Nat.{ℕ, _+_, _-_, _<_, _≤_}
 use native.Mathlib.Omega.{arith}
 use lib.Dec.{ltb, leb}
 use lib.ListN.{length}
-use Rattle.std.proofs.shelf.Tests.{ltb-false, leb-false, not-false}
+use Rattle.std.proofs.shelf.Tests.{ltb-false, leb-false, not-false, or-parts}
+use Rattle.std.specs.declared.option.Option.{Option}
 use Rattle.std.specs.declared.option.Option.the-variants.{Some, None}
 use Rattle.std.specs.declared.result.Result.{Result}
 use Rattle.std.specs.declared.result.Result.the-variants.{Ok, Err}
 use Rattle.rules.specs.Fractions.{Fraction}
 use Rattle.rules.specs.Stamps.{Stamp, at}
-use Rattle.rules.specs.Books.{BookChange, book-rows}
+use Rattle.rules.specs.Books.{BookChange, book-rows, carrier-out}
+use Rattle.rules.specs.Plans.{Plan}
 use Rattle.rules.specs.Boxes.{Box, box-right}
 use Rattle.model.specs.Halls.{quiet, Hall, State, left}
 use Rattle.model.specs.Moves.{enter, leave, change}
-use Rattle.model.specs.Calls.{changing, entering, leaving, booking}
+use Rattle.model.specs.Calls.{changing, entering, leaving, booking, filing, riding}
 use Rattle.model.specs.Refusals.{not-mine, change-rows, rows, refusal}
 use Rattle.accounts.proofs.Counts.{enter-within, leave-within, change-within}
 use Rattle.accounts.proofs.Sound.{fit-none, unfit, fit-rest}
@@ -93,3 +95,10 @@ change-fits-alike x k k′ m s q = fits-as (change x k) (change x k′) 0 m m s 
 
 pub change-wrote-alike : (x : BookChange) (k k′ : Stamp) (m m′ : Hall) (s s′ : List ℕ) (r : ℕ) → k′ ≡ k → Wrote (change x k′) 0 m m′ s s′ r → Wrote (change x k) 0 m m′ s s′ r
 change-wrote-alike x k k′ m m′ s s′ r q = wrote-as (change x k) (change x k′) 0 m m m′ s s′ r (λ i. change x (sym q i) m)
+
+-- a craft whose plan is filed, or which takes a seat, is in range
+pub file-low : (t : Fraction) (c : ℕ) (p : Plan) (z : State) (s : List ℕ) → refusal (changing t (filing c p) (length s)) z ≡ None → c < 64
+file-low t c p z s e = let u = unfit (rows (changing t (filing c p) (length s)) z) e in leb-false 64 c (u .1 .0)
+
+pub ride-low : (t : Fraction) (c j : ℕ) (k : Option ℕ) (z : State) (s : List ℕ) → refusal (changing t (riding c j k) (length s)) z ≡ None → c < 64
+ride-low t c j k z s e = let u = unfit (rows (changing t (riding c j k) (length s)) z) e in leb-false 64 c (or-parts (leb 64 c) (carrier-out k) (u .1 .0) .0)

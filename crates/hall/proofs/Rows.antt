@@ -48,10 +48,10 @@ past (x ∷ xs) ys e = by (past xs ys) (x .1) e where
   by more true f = absurd (none-some (x .0) (sym f))
   by more false f = more f
 
-at-refusal : (call : Call) (z : State) (n : ℕ) → refusal call z ≡ Some n → perform call z ≡ record { state = z; answer = only (refused n) }
+pub at-refusal : (call : Call) (z : State) (n : ℕ) → refusal call z ≡ Some n → perform call z ≡ record { state = z; answer = only (refused n) }
 at-refusal call z n e = ap (λ (o : Option ℕ). unless o call z) e
 
-at-none : (call : Call) (z : State) → refusal call z ≡ None → perform call z ≡ carried-out call z
+pub at-none : (call : Call) (z : State) → refusal call z ≡ None → perform call z ≡ carried-out call z
 at-none call z e = ap (λ (o : Option ℕ). unless o call z) e
 
 -- a refusal alters nothing
