@@ -13,4 +13,4 @@ returns-then-not-knows-due g c =
 pub returns : need.returns
 returns g c =
     let z = state-of (g .B·FlightBook .meaning) (g .Q·EventQueue .holds) (c .args .self .now) in
-    record { performed = run-wrote (time-of (c .args .d .at)) (time-of (c .args .d .goal)) z _ (c .args .slip .now) _ (c .args .page .now) _ _ _ _ _ (c .knows-due .ensures ∙ ap not (c .if-not-knows-due .left)) (c .run-2 .ensures); back = refl }
+    record { performed = run-wrote (time-of (c .args .d .at)) (time-of (c .args .d .goal)) z _ (c .args .slip .now) _ (c .args .page .now) _ _ _ _ _ (c .knows-due .ensures ∙ ap not (c .if-not-knows-due .left)) (c .run-ran .ensures); back = refl }

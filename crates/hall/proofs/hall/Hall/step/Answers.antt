@@ -1,6 +1,10 @@
 use mathlib.Core.Path.{_≡_, sym, ap, _∙_}
 use Rattle.times.specs.Of.{time-of, moment-of}
+use lib.ListN.{length}
+use Rattle.times.specs.Refusals.{number-of}
 use Rattle.queues.specs.Meanings.{first-told}
+use Rattle.model.specs.Calls.{stepping}
+use Rattle.hall.proofs.Rows.{refused-wrote}
 use Rattle.hall.specs.Of.{state-of}
 use Rattle.hall.specs.Told.{refused-by}
 use Rattle.hall.proofs.Stepping.{step-due, step-fits, step-wrote}
@@ -22,3 +26,8 @@ returns g c =
     let z = state-of (g .B·FlightBook .meaning) (g .Q·EventQueue .holds) (c .args .self .now) in
     step-wrote (time-of (c .args .d .now .at)) (time-of (c .args .d .now .goal)) z (c .in-Some-due .due .0) (moment-of (c .in-Some-due .due .1)) _ (c .args .slip .now) _ _ _ _ _
       (sym (c .refuses-step .ensures) ∙ ap refused-by (c .in-rest .is)) (sym (c .due .ensures .value) ∙ ap first-told (c .in-Some-due .is)) (c .step .ensures .wrote) (c .step .ensures .number) (c .step .ensures .time) (c .step .ensures .news)
+
+pub returns-in-Some : need.returns-in-Some
+returns-in-Some g c =
+    let z = state-of (g .B·FlightBook .meaning) (g .Q·EventQueue .holds) (c .args .self .now) in
+    refused-wrote (stepping (time-of (c .args .d .now .at)) (time-of (c .args .d .now .goal)) (length (c .args .slip .now))) z (number-of (c .in-Some .e)) (c .args .slip .now) (sym (c .refuses-step .ensures) ∙ ap refused-by (c .in-Some .is))
