@@ -74,12 +74,13 @@ module _ (w : ℕ) (w8 : w ≤ 8) (t : Fraction) (ut : Usual t) (m : Hall) (g : 
 
   pub enter-good : Good came
   enter-good = record {
-      low = λ d f. by d f (same-or-not d c);
-      live = moved-live c (λ a d. fresh (craft-then c x (at t) m) (at t) a c d) (at-break (break-after (m .book) c t)) m came hc moved g (in-hall came) (λ d n f. in-other d n ∙ f) (λ a d k e. in-here) (λ k e. in-here);
-      neat = moved-neat c (λ a d. fresh (craft-then c x (at t) m) (at t) a c d) (at-break (break-after (m .book) c t)) m came hc moved g
-          (λ a d k e. failing-usual (craft-then c x (at t) m) (at t) a c d _ k ut e)
-          (λ k e. break-usual w (path (m .book) c) t k (kept c) e);
-      slow = came-slow }
+    low = λ d f. by d f (same-or-not d c);
+    live = moved-live c (λ a d. fresh (craft-then c x (at t) m) (at t) a c d) (at-break (break-after (m .book) c t)) m came hc moved g (in-hall came) (λ d n f. in-other d n ∙ f) (λ a d k e. in-here) (λ k e. in-here);
+    neat = moved-neat c (λ a d. fresh (craft-then c x (at t) m) (at t) a c d) (at-break (break-after (m .book) c t)) m came hc moved g
+        (λ a d k e. failing-usual (craft-then c x (at t) m) (at t) a c d _ k ut e)
+        (λ k e. break-usual w (path (m .book) c) t k (kept c) e);
+    slow = came-slow;
+  }
     where
       by : (d : ℕ) → in-hall came d ≡ true → (d ≡ c) ⊎ (d ≡ c → ⊥) → d < 64
       by d f (inl r) = omega (arith, r, hc)
@@ -97,27 +98,32 @@ module _ (w : ℕ) (w8 : w ≤ 8) (t : Fraction) (ut : Usual t) (m : Hall) (g : 
 
   anew : (a : Axis) (e f : ℕ) → e < f → in-hall came e ≡ true → in-hall came f ≡ true → cell came (slot a e f) ≡ fresh (came .craft) (at t) a e f → Anew (sky-of came) t (core-of came) (two e f) a
   anew a e f o ie jf z = record {
-      right = read-right came (at t) a e f o ie jf (ap (λ (y : Cell). y .0) z);
-      granted = certified came came-slow (at t) a e f o ie jf (ut .proper) (usual-inside t ut)
-          (ap (λ (y : Cell). y .1) z ∙ ap (failing (came .craft) (at t) a e f) (sym (ap (λ (y : Cell). y .0) z))) }
+    right = read-right came (at t) a e f o ie jf (ap (λ (y : Cell). y .0) z);
+    granted = certified came came-slow (at t) a e f o ie jf (ut .proper) (usual-inside t ut)
+        (ap (λ (y : Cell). y .1) z ∙ ap (failing (came .craft) (at t) a e f) (sym (ap (λ (y : Cell). y .0) z)));
+  }
 
   stays : (d : ℕ) → (d ≡ c → ⊥) → Stays (sky-of m) (sky-of came) (core-of m) (core-of came) d
   stays d n = record {
-      box = ap box-in (craft-other d n);
-      path = (λ i. path (book-same i) d);
-      leg = λ a. ap (λ (o : Option Craft). the nobody o .leg a) (craft-other d n);
-      turn = leg-apart c (others c m) (λ a d. fresh (craft-then c x (at t) m) (at t) a c d) (at-break (break-after (m .book) c t)) m came hc low apart moved d n }
+    box = ap box-in (craft-other d n);
+    path = (λ i. path (book-same i) d);
+    leg = λ a. ap (λ (o : Option Craft). the nobody o .leg a) (craft-other d n);
+    turn = leg-apart c (others c m) (λ a d. fresh (craft-then c x (at t) m) (at t) a c d) (at-break (break-after (m .book) c t)) m came hc low apart moved d n;
+  }
 
   pub enter-changed : Changed (sky-of m) (sky-of came) t (core-of m) (core-of came)
   enter-changed = record {
-      craft = λ d f. craft d (same-or-not d c);
-      pairs = λ i p a. pairs i p a (same-or-not (i .lower) c) (same-or-not (i .higher) c) }
+    craft = λ d f. craft d (same-or-not d c);
+    pairs = λ i p a. pairs i p a (same-or-not (i .lower) c) (same-or-not (i .higher) c);
+  }
     where
       craft : (d : ℕ) → (d ≡ c) ⊎ (d ≡ c → ⊥) → (Stays (sky-of m) (sky-of came) (core-of m) (core-of came) d) ⊎ (Reads (sky-of came .path d) t (core-of came .leg d) (core-of came .turn d))
       craft d (inr n) = inl (stays d n)
       craft d (inl r) = inr (subst (λ (d : ℕ). Reads (path (came .book) d) t (λ a. craft-of d came .leg a) (came .queue (leg-slot d))) (sym r) (record {
-          lines = λ a. ap (λ (o : Option Craft). the nobody o .leg a) craft-here ∙ (λ i. leg (path (sym book-same i) c) t a);
-          end = moved .leg ∙ (λ i. at-break (break-after (sym book-same i) c t)) }))
+        lines = λ a. ap (λ (o : Option Craft). the nobody o .leg a) craft-here ∙ (λ i. leg (path (sym book-same i) c) t a);
+        end = moved .leg ∙ (λ i. at-break (break-after (sym book-same i) c t));
+      }))
+
       pairs : (i : Pair) → In (sky-of came) i → (a : Axis) → (i .lower ≡ c) ⊎ (i .lower ≡ c → ⊥) → (i .higher ≡ c) ⊎ (i .higher ≡ c → ⊥) → (Remains (sky-of m) (sky-of came) (core-of m) (core-of came) i a) ⊎ (Anew (sky-of came) t (core-of came) i a)
       pairs i p a (inr nl) (inr nh) =
           let z = cell-apart c (others c m) (λ a d. fresh (craft-then c x (at t) m) (at t) a c d) (at-break (break-after (m .book) c t)) m came hc low apart moved a (i .lower) (i .higher) (p .order) (pair-low came enter-good i p) (λ e. nl (sym e)) (λ e. nh (sym e)) in
@@ -150,10 +156,11 @@ module _ (t : Fraction) (m : Hall) (g : Good m) (c : ℕ) (hc : c < 64) where
 
   pub leave-good : Good went
   leave-good = record {
-      low = λ d f. g .low d (sym (left-other d (still-there d f)) ∙ f);
-      live = moved-live c (λ a d. (false, None)) None m went hc away g (in-hall went) (λ d n f. left-other d n ∙ f) (λ a d k e. none-some k e) (λ k e. none-some k e);
-      neat = moved-neat c (λ a d. (false, None)) None m went hc away g (λ a d k e. none-some k e) (λ k e. none-some k e);
-      slow = λ d a. slow d a (same-or-not d c) }
+    low = λ d f. g .low d (sym (left-other d (still-there d f)) ∙ f);
+    live = moved-live c (λ a d. (false, None)) None m went hc away g (in-hall went) (λ d n f. left-other d n ∙ f) (λ a d k e. none-some k e) (λ k e. none-some k e);
+    neat = moved-neat c (λ a d. (false, None)) None m went hc away g (λ a d k e. none-some k e) (λ k e. none-some k e);
+    slow = λ d a. slow d a (same-or-not d c);
+  }
     where
       slow : (d : ℕ) (a : Axis) → (d ≡ c) ⊎ (d ≡ c → ⊥) → natAbs (the nobody (went .craft d) .leg a .slope) ≤ 8000
       slow d a (inl r) = subst (λ (o : Option Craft). natAbs (the nobody o .leg a .slope) ≤ 8000) (sym (ap (went .craft) r ∙ gone-here)) (omega arith)
@@ -161,19 +168,24 @@ module _ (t : Fraction) (m : Hall) (g : Good m) (c : ℕ) (hc : c < 64) where
 
   pub leave-changed : Changed (sky-of m) (sky-of went) t (core-of m) (core-of went)
   leave-changed = record {
-      craft = λ d f. inl (stays d (still-there d (flying went d f)));
-      pairs = λ i p a. inl (remains i p a (still-there (i .lower) (flying went (i .lower) (p .first))) (still-there (i .higher) (flying went (i .higher) (p .second)))) }
+    craft = λ d f. inl (stays d (still-there d (flying went d f)));
+    pairs = λ i p a. inl (remains i p a (still-there (i .lower) (flying went (i .lower) (p .first))) (still-there (i .higher) (flying went (i .higher) (p .second))));
+  }
     where
       low : (d : ℕ) → d ∈ others c m → d < 64
       low d e = others-out c m d e .low
+
       apart : (d : ℕ) → d ∈ others c m → c ≡ d → ⊥
       apart d e r = others-out c m d e .apart (sym r)
+
       stays : (d : ℕ) → (d ≡ c → ⊥) → Stays (sky-of m) (sky-of went) (core-of m) (core-of went) d
       stays d n = record {
-          box = ap box-in (gone-other d n);
-          path = (λ i. path (leave-amid c m .0 i) d);
-          leg = λ a. ap (λ (o : Option Craft). the nobody o .leg a) (gone-other d n);
-          turn = leg-apart c (others c m) (λ a d. (false, None)) None m went hc low apart away d n }
+        box = ap box-in (gone-other d n);
+        path = (λ i. path (leave-amid c m .0 i) d);
+        leg = λ a. ap (λ (o : Option Craft). the nobody o .leg a) (gone-other d n);
+        turn = leg-apart c (others c m) (λ a d. (false, None)) None m went hc low apart away d n;
+      }
+
       remains : (i : Pair) → In (sky-of went) i → (a : Axis) → (i .lower ≡ c → ⊥) → (i .higher ≡ c → ⊥) → Remains (sky-of m) (sky-of went) (core-of m) (core-of went) i a
       remains i p a nl nh =
           let z = cell-apart c (others c m) (λ a d. (false, None)) None m went hc low apart away a (i .lower) (i .higher) (p .order) (pair-low went leave-good i p) (λ e. nl (sym e)) (λ e. nh (sym e)) in

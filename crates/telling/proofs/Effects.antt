@@ -96,14 +96,18 @@ Amid b cr h = (h .book ≡ b) × (h .craft ≡ cr)
 module _ (b : Book) (cr : ℕ → Option Craft) (k : Stamp) (c : ℕ) where
   enter-bit-on : (a : Axis) (d : ℕ) (h : Hall) → Amid b cr h → cell (enter-bit a c k d h .hall) (slot a c d) ≡ fresh cr k a c d
   enter-bit-on a d h i =
-      (λ j. (put-here (h .bit) (slot a c d) (overlapping (h .craft) k a c d) j,
-             (put-here (h .queue) (slot a c d) (failing (h .craft) k a c d (put (h .bit) (slot a c d) (overlapping (h .craft) k a c d) (slot a c d)))
-               ∙ ap (failing (h .craft) k a c d) (put-here (h .bit) (slot a c d) (overlapping (h .craft) k a c d))) j))
+      (λ j. (
+        put-here (h .bit) (slot a c d) (overlapping (h .craft) k a c d) j,
+        (put-here (h .queue) (slot a c d) (failing (h .craft) k a c d (put (h .bit) (slot a c d) (overlapping (h .craft) k a c d) (slot a c d)))
+            ∙ ap (failing (h .craft) k a c d) (put-here (h .bit) (slot a c d) (overlapping (h .craft) k a c d))) j,
+      ))
       ∙ ap (λ (cr : ℕ → Option Craft). fresh cr k a c d) (i .1)
 
   enter-bit-off : (a : Axis) (d : ℕ) (h : Hall) (s : ℕ) → (s ≡ slot a c d → ⊥) → cell (enter-bit a c k d h .hall) s ≡ cell h s
-  enter-bit-off a d h s n = λ j. (put-other (h .bit) (slot a c d) (overlapping (h .craft) k a c d) s n j,
-      put-other (h .queue) (slot a c d) (failing (h .craft) k a c d (put (h .bit) (slot a c d) (overlapping (h .craft) k a c d) (slot a c d))) s n j)
+  enter-bit-off a d h s n = λ j. (
+    put-other (h .bit) (slot a c d) (overlapping (h .craft) k a c d) s n j,
+    put-other (h .queue) (slot a c d) (failing (h .craft) k a c d (put (h .bit) (slot a c d) (overlapping (h .craft) k a c d) (slot a c d))) s n j,
+  )
 
   drop-bit-on : (a : Axis) (d : ℕ) (h : Hall) → cell (drop-bit a c d h .hall) (slot a c d) ≡ (false, None)
   drop-bit-on a d h = λ j. (put-here (h .bit) (slot a c d) false j, put-here (h .queue) (slot a c d) None j)
@@ -113,23 +117,27 @@ module _ (b : Book) (cr : ℕ → Option Craft) (k : Stamp) (c : ℕ) where
 
   pub enter-axes : (ds : List ℕ) (h : Hall) → Amid b cr h → let z = on-axes (λ a. each (enter-bit a c k) ds) h .hall in
       Amid b cr z × ((s : ℕ) → Wrote ds (λ a d. slot a c d) (λ a d. fresh cr k a c d) (cell h) (cell z) s)
-  enter-axes ds h i =
-      (axes-keeps (λ a. each (enter-bit a c k) ds) (Amid b cr) ds (λ a d. slot a c d) (λ a d. fresh cr k a c d) keep wrote h i,
-       axes-wrote (λ a. each (enter-bit a c k) ds) (Amid b cr) ds (λ a d. slot a c d) (λ a d. fresh cr k a c d) keep wrote h i)
+  enter-axes ds h i = (
+    axes-keeps (λ a. each (enter-bit a c k) ds) (Amid b cr) ds (λ a d. slot a c d) (λ a d. fresh cr k a c d) keep wrote h i,
+    axes-wrote (λ a. each (enter-bit a c k) ds) (Amid b cr) ds (λ a d. slot a c d) (λ a d. fresh cr k a c d) keep wrote h i,
+  )
     where
       keep : (a : Axis) (h : Hall) → Amid b cr h → Amid b cr (each (enter-bit a c k) ds h .hall)
       keep a h i = each-keeps (enter-bit a c k) cell (Amid b cr) (λ d. slot a c d) (λ d. fresh cr k a c d) (λ d h i. i) (enter-bit-on a) (λ d h i. enter-bit-off a d h) ds h i
+
       wrote : (a : Axis) (h : Hall) → Amid b cr h → (s : ℕ) → Written ds (λ d. slot a c d) (λ d. fresh cr k a c d) (cell h) (cell (each (enter-bit a c k) ds h .hall)) s
       wrote a h i s = each-written (enter-bit a c k) cell (Amid b cr) (λ d. slot a c d) (λ d. fresh cr k a c d) (λ d h i. i) (enter-bit-on a) (λ d h i. enter-bit-off a d h) ds h i s
 
   pub drop-axes : (ds : List ℕ) (h : Hall) → Amid b cr h → let z = on-axes (λ a. each (drop-bit a c) ds) h .hall in
       Amid b cr z × ((s : ℕ) → Wrote ds (λ a d. slot a c d) (λ a d. (false, None)) (cell h) (cell z) s)
-  drop-axes ds h i =
-      (axes-keeps (λ a. each (drop-bit a c) ds) (Amid b cr) ds (λ a d. slot a c d) (λ a d. (false, None)) keep wrote h i,
-       axes-wrote (λ a. each (drop-bit a c) ds) (Amid b cr) ds (λ a d. slot a c d) (λ a d. (false, None)) keep wrote h i)
+  drop-axes ds h i = (
+    axes-keeps (λ a. each (drop-bit a c) ds) (Amid b cr) ds (λ a d. slot a c d) (λ a d. (false, None)) keep wrote h i,
+    axes-wrote (λ a. each (drop-bit a c) ds) (Amid b cr) ds (λ a d. slot a c d) (λ a d. (false, None)) keep wrote h i,
+  )
     where
       keep : (a : Axis) (h : Hall) → Amid b cr h → Amid b cr (each (drop-bit a c) ds h .hall)
       keep a h i = each-keeps (drop-bit a c) cell (Amid b cr) (λ d. slot a c d) (λ d. (false, None)) (λ d h i. i) (λ d h i. drop-bit-on a d h) (λ d h i. drop-bit-off a d h) ds h i
+
       wrote : (a : Axis) (h : Hall) → Amid b cr h → (s : ℕ) → Written ds (λ d. slot a c d) (λ d. (false, None)) (cell h) (cell (each (drop-bit a c) ds h .hall)) s
       wrote a h i s = each-written (drop-bit a c) cell (Amid b cr) (λ d. slot a c d) (λ d. (false, None)) (λ d h i. i) (λ d h i. drop-bit-on a d h) (λ d h i. drop-bit-off a d h) ds h i s
 
@@ -157,15 +165,17 @@ module _ (b : Book) (cr : ℕ → Option Craft) (k : Stamp) (c : ℕ) where
 
     withdraw-each : (a : Axis) (ds : List ℕ) (h : Hall) → Amidst h → let z = each (λ d. take-away withdrawn (slot a c d)) ds h .hall in
         Amidst z × ((s : ℕ) → Written ds (λ d. slot a c d) (λ d. (bit (slot a c d), None)) (cell h) (cell z) s)
-    withdraw-each a ds h i =
-        (each-keeps (λ d. take-away withdrawn (slot a c d)) cell Amidst (λ d. slot a c d) (λ d. (bit (slot a c d), None)) (λ d h i. i) (withdraw-on a) (λ d h i. withdraw-off a d h) ds h i,
-         each-written (λ d. take-away withdrawn (slot a c d)) cell Amidst (λ d. slot a c d) (λ d. (bit (slot a c d), None)) (λ d h i. i) (withdraw-on a) (λ d h i. withdraw-off a d h) ds h i)
+    withdraw-each a ds h i = (
+      each-keeps (λ d. take-away withdrawn (slot a c d)) cell Amidst (λ d. slot a c d) (λ d. (bit (slot a c d), None)) (λ d h i. i) (withdraw-on a) (λ d h i. withdraw-off a d h) ds h i,
+      each-written (λ d. take-away withdrawn (slot a c d)) cell Amidst (λ d. slot a c d) (λ d. (bit (slot a c d), None)) (λ d h i. i) (withdraw-on a) (λ d h i. withdraw-off a d h) ds h i,
+    )
 
     regrant-each : (a : Axis) (ds : List ℕ) (h : Hall) → Amidst h → let z = each (λ d. grant-bit a c d k) ds h .hall in
         Amidst z × ((s : ℕ) → Written ds (λ d. slot a c d) (renewed a) (cell h) (cell z) s)
-    regrant-each a ds h i =
-        (each-keeps (λ d. grant-bit a c d k) cell Amidst (λ d. slot a c d) (renewed a) (λ d h i. i) (regrant-on a) (λ d h i. regrant-off a d h) ds h i,
-         each-written (λ d. grant-bit a c d k) cell Amidst (λ d. slot a c d) (renewed a) (λ d h i. i) (regrant-on a) (λ d h i. regrant-off a d h) ds h i)
+    regrant-each a ds h i = (
+      each-keeps (λ d. grant-bit a c d k) cell Amidst (λ d. slot a c d) (renewed a) (λ d h i. i) (regrant-on a) (λ d h i. regrant-off a d h) ds h i,
+      each-written (λ d. grant-bit a c d k) cell Amidst (λ d. slot a c d) (renewed a) (λ d h i. i) (regrant-on a) (λ d h i. regrant-off a d h) ds h i,
+    )
 
     renew-both : (a : Axis) (ds : List ℕ) (h g z : Hall) (s : ℕ) → Written ds (λ d. slot a c d) (λ d. (bit (slot a c d), None)) (cell h) (cell g) s → Written ds (λ d. slot a c d) (renewed a) (cell g) (cell z) s → Written ds (λ d. slot a c d) (renewed a) (cell h) (cell z) s
     renew-both a ds h g z s p (inl q) = inl q

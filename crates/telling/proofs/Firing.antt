@@ -50,26 +50,29 @@ module _ (m : Hall) (g : Good m) (k : Stamp) (uk : Usual (k .time)) where
 
     pub bit-flips : Flips (sky-of m) (two c d) a k (core-of m) (core-of flipped)
     bit-flips = record {
-        inside = record { first = in-flight m c ic; second = in-flight m d id; order = p };
-        due = due;
-        turned = ap (λ (x : Cell). x .0) (bit-fired-here a c d k m p q);
-        next = certified flipped (g .slow) k a c d p ic id (uk .proper) (usual-inside (k .time) uk)
-            (ap (λ (x : Cell). x .1) (bit-fired-here a c d k m p q) ∙ ap (failing (m .craft) k a c d) (sym (ap (λ (x : Cell). x .0) (bit-fired-here a c d k m p q))));
-        bits = λ j r b n. ap (λ (x : Cell). x .0) (bit-fired-other a c d k m p q (slot b (j .lower) (j .higher)) (other-slot j r b n));
-        fails = λ j r b n. ap (λ (x : Cell). x .1) (bit-fired-other a c d k m p q (slot b (j .lower) (j .higher)) (other-slot j r b n));
-        legs = λ e f b. refl;
-        turns = λ e f. ap (λ (x : Cell). x .1) (bit-fired-other a c d k m p q (leg-slot e) (λ r. let z = slot-low a c d p q in omega (arith, r))) }
+      inside = record { first = in-flight m c ic; second = in-flight m d id; order = p };
+      due = due;
+      turned = ap (λ (x : Cell). x .0) (bit-fired-here a c d k m p q);
+      next = certified flipped (g .slow) k a c d p ic id (uk .proper) (usual-inside (k .time) uk)
+          (ap (λ (x : Cell). x .1) (bit-fired-here a c d k m p q) ∙ ap (failing (m .craft) k a c d) (sym (ap (λ (x : Cell). x .0) (bit-fired-here a c d k m p q))));
+      bits = λ j r b n. ap (λ (x : Cell). x .0) (bit-fired-other a c d k m p q (slot b (j .lower) (j .higher)) (other-slot j r b n));
+      fails = λ j r b n. ap (λ (x : Cell). x .1) (bit-fired-other a c d k m p q (slot b (j .lower) (j .higher)) (other-slot j r b n));
+      legs = λ e f b. refl;
+      turns = λ e f. ap (λ (x : Cell). x .1) (bit-fired-other a c d k m p q (leg-slot e) (λ r. let z = slot-low a c d p q in omega (arith, r)));
+    }
 
     pub bit-good : Good flipped
     bit-good = record {
-        low = g .low;
-        live = λ s j e. live s j e (same-or-not s (slot a c d));
-        neat = λ s j e. neat s j e (same-or-not s (slot a c d));
-        slow = g .slow }
+      low = g .low;
+      live = λ s j e. live s j e (same-or-not s (slot a c d));
+      neat = λ s j e. neat s j e (same-or-not s (slot a c d));
+      slow = g .slow;
+    }
       where
         live : (s : ℕ) (j : Stamp) → flipped .queue s ≡ Some j → (s ≡ slot a c d) ⊎ (s ≡ slot a c d → ⊥) → Live (in-hall m) s
         live s j e (inl r) = inl (a, c, d, p, ic, id, r)
         live s j e (inr n) = g .live s j (sym (ap (λ (x : Cell). x .1) (bit-fired-other a c d k m p q s n)) ∙ e)
+
         neat : (s : ℕ) (j : Stamp) → flipped .queue s ≡ Some j → (s ≡ slot a c d) ⊎ (s ≡ slot a c d → ⊥) → Usual (j .time)
         neat s j e (inl r) = failing-usual (m .craft) k a c d (not (m .bit (slot a c d))) j uk (sym (ap (λ (x : Cell). x .1) (bit-fired-here a c d k m p q)) ∙ ap (flipped .queue) (sym r) ∙ e)
         neat s j e (inr n) = g .neat s j (sym (ap (λ (x : Cell). x .1) (bit-fired-other a c d k m p q s n)) ∙ e)
@@ -144,28 +147,30 @@ module _ (m : Hall) (g : Good m) (k : Stamp) (uk : Usual (k .time)) where
         by : (i .lower ≡ c) ⊎ (i .higher ≡ c) → Certified (sky-of reread) (core-of reread) k i a
         by (inl e) = certified reread anew-slow k a (i .lower) (i .higher) (r .order) (in-same (i .lower) ∙ flying m (i .lower) (r .first)) (in-same (i .higher) ∙ flying m (i .higher) (r .second)) (uk .proper) (usual-inside (k .time) uk)
             (subst (λ (x : ℕ). reread .queue (slot a x (i .higher)) ≡ failing (reread .craft) k a x (i .higher) (reread .bit (slot a x (i .higher)))) (sym e)
-                (pair-cell a (i .higher) (flying m (i .higher) (r .second)) (λ f. let z = r .order in omega (arith, e, f))))
+            (pair-cell a (i .higher) (flying m (i .higher) (r .second)) (λ f. let z = r .order in omega (arith, e, f))))
         by (inr e) = certified reread anew-slow k a (i .lower) (i .higher) (r .order) (in-same (i .lower) ∙ flying m (i .lower) (r .first)) (in-same (i .higher) ∙ flying m (i .higher) (r .second)) (uk .proper) (usual-inside (k .time) uk)
             (subst (λ (x : ℕ). reread .queue (slot a (i .lower) x) ≡ failing (reread .craft) k a (i .lower) x (reread .bit (slot a (i .lower) x))) (sym e)
-                (pair-swap a (i .lower) (flying m (i .lower) (r .first)) (λ f. let z = r .order in omega (arith, e, f))))
+            (pair-swap a (i .lower) (flying m (i .lower) (r .first)) (λ f. let z = r .order in omega (arith, e, f))))
 
     pub leg-rereads : Rereads (sky-of m) c k (core-of m) (core-of reread)
     leg-rereads = record {
-        inside = in-flight m c ic;
-        due = due;
-        read = record { lines = λ a. ap (λ (o : Option Craft). the nobody o .leg a) craft-here; end = moved .leg };
-        next = next;
-        bits = λ i r a. (λ j. bit-same j (slot a (i .lower) (i .higher)));
-        fails = λ i r nl nh a. ap (λ (x : Cell). x .1) (cell-apart c (others c m) (renewed (m .book) (craft-anew c k m ic) k c (m .bit)) (at-break (break-after (m .book) c (k .time))) m reread (g .low c ic) low apart moved a (i .lower) (i .higher) (r .order) (pair-low m g i r) (λ e. nl (sym e)) (λ e. nh (sym e)));
-        legs = λ d f n b. ap (λ (o : Option Craft). the nobody o .leg b) (craft-other d n);
-        turns = λ d f n. leg-apart c (others c m) (renewed (m .book) (craft-anew c k m ic) k c (m .bit)) (at-break (break-after (m .book) c (k .time))) m reread (g .low c ic) low apart moved d n }
+      inside = in-flight m c ic;
+      due = due;
+      read = record { lines = λ a. ap (λ (o : Option Craft). the nobody o .leg a) craft-here; end = moved .leg };
+      next = next;
+      bits = λ i r a. (λ j. bit-same j (slot a (i .lower) (i .higher)));
+      fails = λ i r nl nh a. ap (λ (x : Cell). x .1) (cell-apart c (others c m) (renewed (m .book) (craft-anew c k m ic) k c (m .bit)) (at-break (break-after (m .book) c (k .time))) m reread (g .low c ic) low apart moved a (i .lower) (i .higher) (r .order) (pair-low m g i r) (λ e. nl (sym e)) (λ e. nh (sym e)));
+      legs = λ d f n b. ap (λ (o : Option Craft). the nobody o .leg b) (craft-other d n);
+      turns = λ d f n. leg-apart c (others c m) (renewed (m .book) (craft-anew c k m ic) k c (m .bit)) (at-break (break-after (m .book) c (k .time))) m reread (g .low c ic) low apart moved d n;
+    }
 
     pub leg-good : Good reread
     leg-good = record {
-        low = λ d f. g .low d (sym (in-same d) ∙ f);
-        live = moved-live c (renewed (m .book) (craft-anew c k m ic) k c (m .bit)) (at-break (break-after (m .book) c (k .time))) m reread (g .low c ic) moved g (in-hall reread)
-            (λ d n f. in-same d ∙ f) (λ a d j e. in-same c ∙ ic) (λ j e. in-same c ∙ ic);
-        neat = moved-neat c (renewed (m .book) (craft-anew c k m ic) k c (m .bit)) (at-break (break-after (m .book) c (k .time))) m reread (g .low c ic) moved g
-            (λ a d j e. failing-usual (craft-anew c k m ic) k a c d (m .bit (slot a c d)) j uk e)
-            (λ j e. break-usual w (path (m .book) c) (k .time) j (kept c) e);
-        slow = anew-slow }
+      low = λ d f. g .low d (sym (in-same d) ∙ f);
+      live = moved-live c (renewed (m .book) (craft-anew c k m ic) k c (m .bit)) (at-break (break-after (m .book) c (k .time))) m reread (g .low c ic) moved g (in-hall reread)
+          (λ d n f. in-same d ∙ f) (λ a d j e. in-same c ∙ ic) (λ j e. in-same c ∙ ic);
+      neat = moved-neat c (renewed (m .book) (craft-anew c k m ic) k c (m .bit)) (at-break (break-after (m .book) c (k .time))) m reread (g .low c ic) moved g
+          (λ a d j e. failing-usual (craft-anew c k m ic) k a c d (m .bit (slot a c d)) j uk e)
+          (λ j e. break-usual w (path (m .book) c) (k .time) j (kept c) e);
+      slow = anew-slow;
+    }

@@ -66,11 +66,14 @@ module _ (w : ℕ) (w8 : w ≤ 8) where
     way-ends s us m₀ r rs u m v =
         let q = goes-gone w w8 u m m₀ rs (r .good) (r .kept) (v .2) in
         let z = hold w (sky-of m₀) (r .kept) s u (us .proper) (v .0 .proper) (v .1) (usual-inside u (v .0)) (core-of m₀) (core-of m) rs (r .rested) (q .runs)
-            (subst (λ (y : Sky). Quiet y (core-of m) u) (q .same-sky) (quiet-now m (q .good) u (v .0 .proper) (v .3))) in
-        (z .0, record {
+        (subst (λ (y : Sky). Quiet y (core-of m) u) (q .same-sky) (quiet-now m (q .good) u (v .0 .proper) (v .3))) in (
+          z .0,
+          record {
             good = q .good;
             kept = kept-on w w8 m₀ m (q .same-book) (r .kept);
-            rested = subst (λ (y : Sky). Rested y u (core-of m)) (sym (q .same-sky)) (z .1) })
+            rested = subst (λ (y : Sky). Rested y u (core-of m)) (sym (q .same-sky)) (z .1);
+          },
+        )
 
     -- THE INVARIANT: the book is lawful at the scale w, and the hall is on its way from one at rest
     pub record Inv (z : State) : Type 0 where
@@ -95,7 +98,13 @@ module _ (w : ℕ) (w8 : w ≤ 8) where
         let q = way-goes (i .start) (i .from) (i .resting .good) (i .resting .kept) rs (z′ .clock) (z′ .hall) v .1 in
         record {
           lawful = lawful-as (z .hall .book) (z′ .hall .book) (p .same-book ∙ sym (q .same-book)) (i .lawful);
-          start = i .start; usual = i .usual; from = i .from; resting = i .resting; told = rs; way = v }
+          start = i .start;
+          usual = i .usual;
+          from = i .from;
+          resting = i .resting;
+          told = rs;
+          way = v;
+        }
 
     -- at rest the way begins anew
     pub way-begins : (t : Fraction) → Usual t → (m : Hall) (r : Resting w w8 t m) → Way w w8 t m (r .good) (r .kept) [] (quiet t) m
@@ -103,8 +112,14 @@ module _ (w : ℕ) (w8 : w ≤ 8) where
 
     inv-anew : (b : Book) → ((xs : List BookChange) (c : ℕ) → Kept w (path (changed-by xs b) c)) → (k : Clock) (m : Hall) (t : Fraction) → m .book ≡ b → Usual t → Resting w w8 t m → k ≡ quiet t → Inv (record { hall = m; clock = k })
     inv-anew b l k m t e ut r c = record {
-        lawful = lawful-as b (m .book) (sym e) l; start = t; usual = ut; from = m; resting = r; told = [];
-        way = way-at w w8 t m (r .good) (r .kept) [] (quiet t) k m (sym c) (way-begins t ut m r) }
+      lawful = lawful-as b (m .book) (sym e) l;
+      start = t;
+      usual = ut;
+      from = m;
+      resting = r;
+      told = [];
+      way = way-at w w8 t m (r .good) (r .kept) [] (quiet t) k m (sym c) (way-begins t ut m r);
+    }
 
     -- at a quiet clock the hall rests
     pub inv-rests : (z : State) (i : Inv z) (t : Fraction) → z .clock ≡ quiet t → Usual t × Resting w w8 t (z .hall)
@@ -131,7 +146,7 @@ module _ (w : ℕ) (w8 : w ≤ 8) where
           let k = mine-quiet (z .clock) t (a .0) in
           let r = inv-rests z i t k in
           inv-anew (changed y (z .hall .book)) (λ xs c. i .lawful (y ∷ xs) c) (z .clock) (change y (at t) (z .hall) .hall) t (change-book y (at t) (z .hall)) (r .0)
-              (change-rests rest stay w w8 t (r .0) y (z .hall) (λ c. i .lawful (y ∷ []) c) (r .1)) k
+          (change-rests rest stay w w8 t (r .0) y (z .hall) (λ c. i .lawful (y ∷ []) c) (r .1)) k
 
       carried-inv : (z : State) (i : Inv z) (call : Call) → refusal call z ≡ None → Inv (carried-out call z .state)
       carried-inv z i (changing t x slip) e = make-inv z i t slip x e
@@ -160,10 +175,13 @@ module _ (w : ℕ) (w8 : w ≤ 8) where
       where
         nobody-in : {A : Type 0} → false ≡ true → A
         nobody-in e = absurd (both-ways false refl e)
+
         resting : Resting w w8 (tick 0) (empty-hall b)
         resting = record {
-            good = record { low = λ c f. nobody-in f; live = λ s k e. some-none None k refl e; neat = λ s k e. some-none None k refl e; slow = λ c a. omega arith };
-            kept = λ c. l [] c;
-            rested = record {
-              sound = record { legs = λ c f. nobody-in f; bits = λ i p a. nobody-in (p .first) };
-              quiet = record { bits = λ i p a k e. nobody-in (p .first); legs = λ c f k e. nobody-in f } } }
+          good = record { low = λ c f. nobody-in f; live = λ s k e. some-none None k refl e; neat = λ s k e. some-none None k refl e; slow = λ c a. omega arith };
+          kept = λ c. l [] c;
+          rested = record {
+            sound = record { legs = λ c f. nobody-in f; bits = λ i p a. nobody-in (p .first) };
+            quiet = record { bits = λ i p a k e. nobody-in (p .first); legs = λ c f k e. nobody-in f };
+          };
+        }

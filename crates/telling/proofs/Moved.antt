@@ -93,9 +93,10 @@ module _ (c : ℕ) (x : Box) (k : Stamp) (m : Hall) where
 
   pub enter-moved : Moved c (others c m) (λ a d. fresh craft-then k a c d) (at-break (break-after (m .book) c (k .time))) m (enter c x k m .hall)
   enter-moved = record {
-      cells = λ s n. wrote-to (others c m) (λ a d. slot a c d) (λ a d. fresh craft-then k a c d) (cell m) (cell enter-mid) (cell (enter c x k m .hall)) s
-          (λ j. (enter-mid .bit s, put-other (enter-mid .queue) (leg-slot c) (at-break (break-after (enter-mid .book) c (k .time))) s n j)) (mid-entered .1 s);
-      leg = put-here (enter-mid .queue) (leg-slot c) (at-break (break-after (enter-mid .book) c (k .time))) ∙ ap (λ (b : Book). at-break (break-after b c (k .time))) (mid-entered .0 .0) }
+    cells = λ s n. wrote-to (others c m) (λ a d. slot a c d) (λ a d. fresh craft-then k a c d) (cell m) (cell enter-mid) (cell (enter c x k m .hall)) s
+        (λ j. (enter-mid .bit s, put-other (enter-mid .queue) (leg-slot c) (at-break (break-after (enter-mid .book) c (k .time))) s n j)) (mid-entered .1 s);
+    leg = put-here (enter-mid .queue) (leg-slot c) (at-break (break-after (enter-mid .book) c (k .time))) ∙ ap (λ (b : Book). at-break (break-after b c (k .time))) (mid-entered .0 .0);
+  }
 
 -- ---- leaving
 module _ (c : ℕ) (m : Hall) where
@@ -110,9 +111,10 @@ module _ (c : ℕ) (m : Hall) where
 
   pub leave-moved : Moved c (others c m) (λ a d. (false, None)) None m (leave c m .hall)
   leave-moved = record {
-      cells = λ s n. wrote-to (others c m) (λ a d. slot a c d) (λ a d. (false, None)) (cell m) (cell leave-mid) (cell (leave c m .hall)) s
-          (λ j. (leave-mid .bit s, put-other (leave-mid .queue) (leg-slot c) None s n j)) (mid-left .1 s);
-      leg = put-here (leave-mid .queue) (leg-slot c) None }
+    cells = λ s n. wrote-to (others c m) (λ a d. slot a c d) (λ a d. (false, None)) (cell m) (cell leave-mid) (cell (leave c m .hall)) s
+        (λ j. (leave-mid .bit s, put-other (leave-mid .queue) (leg-slot c) None s n j)) (mid-left .1 s);
+    leg = put-here (leave-mid .queue) (leg-slot c) None;
+  }
 
 -- ---- firing a leg certificate
 module _ (c : ℕ) (k : Stamp) (m : Hall) (inside : in-hall m c ≡ true) where
@@ -152,8 +154,9 @@ module _ (c : ℕ) (k : Stamp) (m : Hall) (inside : in-hall m c ≡ true) where
 
   pub leg-moved : Moved c (others c m) (renewed (m .book) craft-anew k c (m .bit)) (at-break (break-after (m .book) c (k .time))) m leg-fired
   leg-moved = record {
-      cells = λ s n. both s n (mid-wrote s);
-      leg = put-here (fire-mid .queue) (leg-slot c) (at-break (break-after (fire-mid .book) c (k .time))) ∙ ap (λ (b : Book). at-break (break-after b c (k .time))) (mid-amidst .0 .0) }
+    cells = λ s n. both s n (mid-wrote s);
+    leg = put-here (fire-mid .queue) (leg-slot c) (at-break (break-after (fire-mid .book) c (k .time))) ∙ ap (λ (b : Book). at-break (break-after b c (k .time))) (mid-amidst .0 .0);
+  }
     where
       both : (s : ℕ) → (s ≡ leg-slot c → ⊥) → Wrote (others c m) (λ a d. slot a c d) (renewed (m .book) craft-anew k c (m .bit)) (cell fire-start) (cell fire-mid) s → Wrote (others c m) (λ a d. slot a c d) (renewed (m .book) craft-anew k c (m .bit)) (cell m) (cell leg-fired) s
       both s n (inl w) = inl (w .0, w .1, w .2, w .3, (λ j. (fire-mid .bit s, put-other (fire-mid .queue) (leg-slot c) (at-break (break-after (fire-mid .book) c (k .time))) s n j)) ∙ w .4)
@@ -182,10 +185,14 @@ module _ (a : Axis) (c d : ℕ) (k : Stamp) (m : Hall) (p : c < d) (q : d < 64) 
 
   pub bit-fired-here : cell bit-fired (slot a c d) ≡ flipped-cell
   bit-fired-here = bit-fired-is (slot a c d)
-      ∙ (λ i. (put-here (m .bit) (slot a c d) (not (m .bit (slot a c d))) i,
-            (put-here emptied (slot a c d) (failing (m .craft) k a c d (turned (slot a c d))) ∙ ap (failing (m .craft) k a c d) (put-here (m .bit) (slot a c d) (not (m .bit (slot a c d))))) i))
+      ∙ (λ i. (
+        put-here (m .bit) (slot a c d) (not (m .bit (slot a c d))) i,
+        (put-here emptied (slot a c d) (failing (m .craft) k a c d (turned (slot a c d))) ∙ ap (failing (m .craft) k a c d) (put-here (m .bit) (slot a c d) (not (m .bit (slot a c d))))) i,
+      ))
 
   pub bit-fired-other : (s : ℕ) → (s ≡ slot a c d → ⊥) → cell bit-fired s ≡ cell m s
   bit-fired-other s n = bit-fired-is s
-      ∙ (λ i. (put-other (m .bit) (slot a c d) (not (m .bit (slot a c d))) s n i,
-            (put-other emptied (slot a c d) (failing (m .craft) k a c d (turned (slot a c d))) s n ∙ put-other (m .queue) (slot a c d) None s n) i))
+      ∙ (λ i. (
+        put-other (m .bit) (slot a c d) (not (m .bit (slot a c d))) s n i,
+        (put-other emptied (slot a c d) (failing (m .craft) k a c d (turned (slot a c d))) s n ∙ put-other (m .queue) (slot a c d) None s n) i,
+      ))

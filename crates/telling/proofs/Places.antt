@@ -41,10 +41,11 @@ pub slot-higher : (a : Axis) (c d : ℕ) → c < d → d < 64 → higher-of (slo
 slot-higher a c d h g = let z = slot-is a c d h in omega arith
 
 pub slot-one : (a b : Axis) (c d e f : ℕ) → c < d → d < 64 → e < f → f < 64 → slot a c d ≡ slot b e f → (a ≡ b) × (c ≡ e) × (d ≡ f)
-slot-one a b c d e f h g p q s =
-    (sym (slot-axis a c d h g) ∙ ap axis-of s ∙ slot-axis b e f p q,
-     sym (slot-lower a c d h g) ∙ ap lower-of s ∙ slot-lower b e f p q,
-     sym (slot-higher a c d h g) ∙ ap higher-of s ∙ slot-higher b e f p q)
+slot-one a b c d e f h g p q s = (
+  sym (slot-axis a c d h g) ∙ ap axis-of s ∙ slot-axis b e f p q,
+  sym (slot-lower a c d h g) ∙ ap lower-of s ∙ slot-lower b e f p q,
+  sym (slot-higher a c d h g) ∙ ap higher-of s ∙ slot-higher b e f p q,
+)
 
 -- of two different craft one is the lower: what holds of both orders
 pub in-order : (c d : ℕ) → (c ≡ d → ⊥) → (c < d) ⊎ (d < c)

@@ -26,8 +26,9 @@ module _ (b : Book) (lawful : Lawful b) (small : b .scale ≤ 8) (calls : List C
   -- with a quiet clock the hall is at rest
   pub rests : Rests b calls
   rests = record {
-      time = λ t e. let r = inv-rests (b .scale) small reports-hold (after calls (opened b)) (inv reports-hold bits-tell changes-rest paths-stay b lawful small calls) t e in (r .0 .proper, usual-inside t (r .0));
-      rested = λ t e. inv-rests (b .scale) small reports-hold (after calls (opened b)) (inv reports-hold bits-tell changes-rest paths-stay b lawful small calls) t e .1 .rested }
+    time = λ t e. let r = inv-rests (b .scale) small reports-hold (after calls (opened b)) (inv reports-hold bits-tell changes-rest paths-stay b lawful small calls) t e in (r .0 .proper, usual-inside t (r .0));
+    rested = λ t e. inv-rests (b .scale) small reports-hold (after calls (opened b)) (inv reports-hold bits-tell changes-rest paths-stay b lawful small calls) t e .1 .rested;
+  }
 
   pub touching-told : Touching b calls
   touching-told = touching-holds reports-hold bits-tell changes-rest paths-stay b lawful small calls

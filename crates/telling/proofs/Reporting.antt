@@ -46,7 +46,7 @@ module _ (w : ℕ) (w8 : w ≤ 8) (s : Fraction) (m₀ : Hall) (g₀ : Good m₀
       let a = perform c z .answer in
       let e = after cs (perform c z .state) in
       subst (λ (ls : List Report). Way w w8 s m₀ g₀ k₀ ls (e .clock) (e .hall)) (join-reports rs (step-report (a .result)) (page-reports (a .page)) (reports (events cs (perform c z .state))))
-          (way-calls cs (perform c z .state) (rs ++ answer-reports a) (n .1) (way-call w w8 s m₀ g₀ k₀ c z rs (n .0) v))
+      (way-calls cs (perform c z .state) (rs ++ answer-reports a) (n .1) (way-call w w8 s m₀ g₀ k₀ c z rs (n .0) v))
 
 -- ---- pages
 abbrev pub PageIs : List ℕ → Type 0
@@ -120,7 +120,7 @@ module _ (hold : Reports-hold) (bits : Bits-tell) (rest : Changes-rest) (stay : 
         let c : here .clock ≡ quiet s = sym (histories-agree b calls .clock) ∙ on .starts in
         let u = way-calls (b .scale) small s (here .hall) (r .1 .good) (r .1 .kept) more here [] (on .unchanged) (way-at (b .scale) small s (here .hall) (r .1 .good) (r .1 .kept) [] (quiet s) (here .clock) (here .hall) (sym c) v) in
         way-at (b .scale) small s (here .hall) (r .1 .good) (r .1 .kept) (reports (further b calls more)) (after more here .clock) (quiet t) end
-            (ap (λ (z : State). z .clock) (sym (after-join calls more (opened b))) ∙ sym (histories-agree b (calls ++ more) .clock) ∙ on .stops) u
+        (ap (λ (z : State). z .clock) (sym (after-join calls more (opened b))) ∙ sym (histories-agree b (calls ++ more) .clock) ∙ on .stops) u
 
     pub reported : Reported told s t (reports (further b calls more))
     reported = subst (λ (y : Sky). Reported y s t (reports (further b calls more))) (sky-is hold bits rest stay b lawful small calls)
@@ -131,8 +131,9 @@ module _ (hold : Reports-hold) (bits : Bits-tell) (rest : Changes-rest) (stay : 
 
   pub reporting-holds : Reports b calls
   reporting-holds = record {
-      true-told = λ more s t on r e. (plain-in (reports (further b calls more)) r (plain more s t on) e, happens s t (r .news) (r .time) (reported more s t on .true-told r e));
-      all-told = λ more s t on w u p h. reported more s t on .all-told w u p (unhappens s t w u h);
-      ordered = λ more s t on. reported more s t on .ordered;
-      same = λ more other s t on an. goes-one t (end more s t on) (end other s t an) (here .hall) (reports (further b calls more)) (reports (further b calls other)) (way-on more s t on .3) (way-on other s t an .3) (way-on more s t on .2) (way-on other s t an .2);
-      pages = page-calls (b .scale) small hold rest stay calls (opened b) (inv-opened (b .scale) small hold b (lawful .paths)) }
+    true-told = λ more s t on r e. (plain-in (reports (further b calls more)) r (plain more s t on) e, happens s t (r .news) (r .time) (reported more s t on .true-told r e));
+    all-told = λ more s t on w u p h. reported more s t on .all-told w u p (unhappens s t w u h);
+    ordered = λ more s t on. reported more s t on .ordered;
+    same = λ more other s t on an. goes-one t (end more s t on) (end other s t an) (here .hall) (reports (further b calls more)) (reports (further b calls other)) (way-on more s t on .3) (way-on other s t an .3) (way-on more s t on .2) (way-on other s t an .2);
+    pages = page-calls (b .scale) small hold rest stay calls (opened b) (inv-opened (b .scale) small hold b (lawful .paths));
+  }

@@ -41,24 +41,28 @@ Paths-stay = (x : BookChange) (b : Book) (d : ℕ) → follows b (craft-set x) d
 module _ (rest : Changes-rest) (w : ℕ) (w8 : w ≤ 8) (t : Fraction) (ut : Usual t) where
   pub enter-rests : (m : Hall) (c : ℕ) (x : Box) → c < 64 → Resting w w8 t m → Resting w w8 t (enter c x (at t) m .hall)
   enter-rests m c x hc r = record {
-      good = enter-good w w8 t ut m (r .good) (r .kept) c hc x;
-      kept = kept-on w w8 m (enter c x (at t) m .hall) (enter-amid c x (at t) m .0) (r .kept);
-      rested = rest (sky-of m) (sky-of (enter c x (at t) m .hall)) t (ut .proper) (core-of m) (core-of (enter c x (at t) m .hall)) (r .rested) (enter-changed w w8 t ut m (r .good) (r .kept) c hc x) }
+    good = enter-good w w8 t ut m (r .good) (r .kept) c hc x;
+    kept = kept-on w w8 m (enter c x (at t) m .hall) (enter-amid c x (at t) m .0) (r .kept);
+    rested = rest (sky-of m) (sky-of (enter c x (at t) m .hall)) t (ut .proper) (core-of m) (core-of (enter c x (at t) m .hall)) (r .rested) (enter-changed w w8 t ut m (r .good) (r .kept) c hc x);
+  }
 
   pub leave-rests : (m : Hall) (c : ℕ) → c < 64 → Resting w w8 t m → Resting w w8 t (leave c m .hall)
   leave-rests m c hc r = record {
-      good = leave-good t m (r .good) c hc;
-      kept = kept-on w w8 m (leave c m .hall) (leave-amid c m .0) (r .kept);
-      rested = rest (sky-of m) (sky-of (leave c m .hall)) t (ut .proper) (core-of m) (core-of (leave c m .hall)) (r .rested) (leave-changed t m (r .good) c hc) }
+    good = leave-good t m (r .good) c hc;
+    kept = kept-on w w8 m (leave c m .hall) (leave-amid c m .0) (r .kept);
+    rested = rest (sky-of m) (sky-of (leave c m .hall)) t (ut .proper) (core-of m) (core-of (leave c m .hall)) (r .rested) (leave-changed t m (r .good) c hc);
+  }
 
   -- the paths of those that are entered stay
   pub book-rests : (m : Hall) (b : Book) → ((c : ℕ) → Kept w (path b c)) → ((d : ℕ) → in-hall m d ≡ true → path b d ≡ path (m .book) d) → Resting w w8 t m → Resting w w8 t (with-book b m)
   book-rests m b kept same r = record {
-      good = record { low = r .good .low; live = r .good .live; neat = r .good .neat; slow = r .good .slow };
-      kept = kept;
-      rested = rest (sky-of m) (sky-of (with-book b m)) t (ut .proper) (core-of m) (core-of (with-book b m)) (r .rested) (record {
-          craft = λ d f. inl (stays d (flying m d f));
-          pairs = λ i p a. inl (record { first = stays (i .lower) (flying m (i .lower) (p .first)); second = stays (i .higher) (flying m (i .higher) (p .second)); bit = refl; fails = refl }) }) }
+    good = record { low = r .good .low; live = r .good .live; neat = r .good .neat; slow = r .good .slow };
+    kept = kept;
+    rested = rest (sky-of m) (sky-of (with-book b m)) t (ut .proper) (core-of m) (core-of (with-book b m)) (r .rested) (record {
+      craft = λ d f. inl (stays d (flying m d f));
+      pairs = λ i p a. inl (record { first = stays (i .lower) (flying m (i .lower) (p .first)); second = stays (i .higher) (flying m (i .higher) (p .second)); bit = refl; fails = refl });
+    });
+  }
     where
       stays : (d : ℕ) → in-hall m d ≡ true → Stays (sky-of m) (sky-of (with-book b m)) (core-of m) (core-of (with-book b m)) d
       stays d f = record { box = refl; path = same d f; leg = λ a. refl; turn = refl }
@@ -127,7 +131,7 @@ pub change-rests : Changes-rest → Paths-stay → (w : ℕ) (w8 : w ≤ 8) (t :
 change-rests rest stay w w8 t ut x m kept r =
     let low : (d : ℕ) → d ∈ followers (craft-set x) m → d < 64 = λ d e. followers-out (craft-set x) m d e .low in
     enter-all rest w w8 t ut (λ d. craft-of d m .box) (followers (craft-set x) m) low (open-hall x (at t) m)
-        (book-rests rest w w8 t ut (left-hall x (at t) m) (changed x (left-hall x (at t) m .book))
-            (λ c. subst (λ (b : Book). Kept w (path (changed x b) c)) (sym (leave-book (followers (craft-set x) m) m)) (kept c))
-            (out-paths x (at t) m stay (r .good .low))
-            (leave-all rest w w8 t ut (followers (craft-set x) m) low m r))
+    (book-rests rest w w8 t ut (left-hall x (at t) m) (changed x (left-hall x (at t) m .book))
+    (λ c. subst (λ (b : Book). Kept w (path (changed x b) c)) (sym (leave-book (followers (craft-set x) m) m)) (kept c))
+    (out-paths x (at t) m stay (r .good .low))
+    (leave-all rest w w8 t ut (followers (craft-set x) m) low m r))

@@ -80,15 +80,16 @@ pub failing-swap : (cr : ℕ → Option Craft) (k : Stamp) (a : Axis) (c d : ℕ
 failing-swap cr k a c d b = λ i. fails b (ends-in cr a (min-comm c d i)) (ends-in cr a (max-comm c d i)) k
 
 pub fresh-swap : (cr : ℕ → Option Craft) (k : Stamp) (a : Axis) (c d : ℕ) → fresh cr k a c d ≡ fresh cr k a d c
-fresh-swap cr k a c d = λ i.
-    (overlap (ends-in cr a (min-comm c d i)) (ends-in cr a (max-comm c d i)) k,
-     fails (overlap (ends-in cr a (min-comm c d i)) (ends-in cr a (max-comm c d i)) k) (ends-in cr a (min-comm c d i)) (ends-in cr a (max-comm c d i)) k)
+fresh-swap cr k a c d = λ i. (
+  overlap (ends-in cr a (min-comm c d i)) (ends-in cr a (max-comm c d i)) k,
+  fails (overlap (ends-in cr a (min-comm c d i)) (ends-in cr a (max-comm c d i)) k) (ends-in cr a (min-comm c d i)) (ends-in cr a (max-comm c d i)) k,
+)
 
 -- ---- times
 pub failing-usual : (cr : ℕ → Option Craft) (k : Stamp) (a : Axis) (c d : ℕ) (b : Bool) (j : Stamp) → Usual (k .time) → failing cr k a c d b ≡ Some j → Usual (j .time)
 failing-usual cr k a c d b j u e =
     subst (λ (o : Option Stamp). Cases o (Unit {0}) (λ k. Usual (k .time))) e
-        (certificates-usual b (ends-in cr a (min c d)) (ends-in cr a (max c d)) k u)
+    (certificates-usual b (ends-in cr a (min c d)) (ends-in cr a (max c d)) k u)
 
 pub usual-inside : (t : Fraction) → Usual t → NotAfter t (tick 50000)
 usual-inside t u = let h = u .inside in omega arith
@@ -114,6 +115,7 @@ first-among t (k ∷ ks) i e = by (is-before t (tick k)) (first-after t ks) (λ 
         pick : (k < j) ⊎ (j ≤ k) → min k j ∈ (k ∷ ks)
         pick (inl l) = List·Memᴰ·head (min-eq-left {n = k} {m = j} (omega arith))
         pick (inr l) = List·Memᴰ·tail (subst (λ (x : ℕ). x ∈ ks) (sym (min-eq-right {n = j} {m = k} (omega arith))) (f j refl))
+
     by : (b : Bool) (o : Option ℕ) → ((j : ℕ) → o ≡ Some j → j ∈ ks) → cond b (Some (min-with k o)) o ≡ Some i → i ∈ (k ∷ ks)
     by true o f e = let z : min-with k o ≡ i = cc in subst (λ (j : ℕ). j ∈ (k ∷ ks)) z (least o f)
     by false o f e = List·Memᴰ·tail (f i e)
@@ -151,18 +153,22 @@ module _ (c : ℕ) (v : Axis → ℕ → Cell) (l : Option Stamp) (m h : Hall) (
           where
             id : in′ d ≡ true
             id = stay d (o .apart) (o .here)
+
             go : (c < d) ⊎ (d < c) → Live in′ s
             go (inl x) = inl (a, c, d, x, ic, id, q)
             go (inr x) = inl (a, d, c, x, id, ic, q ∙ slot-swap a c d)
+
         old-live : ((a : Axis) (d : ℕ) → d ∈ others c m → s ≡ slot a c d → ⊥) → (s ≡ leg-slot c → ⊥) → Live (in-hall m) s → Live in′ s
         old-live none n (inr w) = inr (w .0, stay (w .0) (λ r. n (w .2 ∙ ap leg-slot r)) (w .1), w .2)
         old-live none n (inl w) =
             let nc : w .1 ≡ c → ⊥ = λ r. none (w .0) (w .2) (others-in c m (w .2) (record { low = g .low (w .2) (w .5); here = w .5; apart = λ q. omega (arith, w .3, r, q) })) (w .6 ∙ ap (λ (x : ℕ). slot (w .0) x (w .2)) r) in
             let nd : w .2 ≡ c → ⊥ = λ r. none (w .0) (w .1) (others-in c m (w .1) (record { low = g .low (w .1) (w .4); here = w .4; apart = λ q. omega (arith, w .3, r, q) })) (w .6 ∙ ap (λ (x : ℕ). slot (w .0) (w .1) x) r ∙ slot-swap (w .0) (w .1) c) in
             inl (w .0, w .1, w .2, w .3, stay (w .1) nc (w .4), stay (w .2) nd (w .5), w .6)
+
         other : (s ≡ leg-slot c → ⊥) → Wrote (others c m) (λ a d. slot a c d) v (cell m) (cell h) s → Live in′ s
         other n (inl w) = pair-live (w .0) (w .1) (others-out c m (w .1) (w .2)) (v-in (w .0) (w .1) k (sym (ap (λ (x : Cell). x .1) (w .4)) ∙ e)) (w .3)
         other n (inr w) = old-live (w .0) n (g .live s k (sym (ap (λ (x : Cell). x .1) (w .1)) ∙ e))
+
         by : (s ≡ leg-slot c) ⊎ (s ≡ leg-slot c → ⊥) → Live in′ s
         by (inl q) = inr (c, l-in k (sym (z .leg) ∙ ap (h .queue) (sym q) ∙ e), q)
         by (inr n) = other n (z .cells s n)
@@ -173,6 +179,7 @@ module _ (c : ℕ) (v : Axis → ℕ → Cell) (l : Option Stamp) (m h : Hall) (
       other : Wrote (others c m) (λ a d. slot a c d) v (cell m) (cell h) s → Usual (k .time)
       other (inl w) = vu (w .0) (w .1) k (sym (ap (λ (x : Cell). x .1) (w .4)) ∙ e)
       other (inr w) = g .neat s k (sym (ap (λ (x : Cell). x .1) (w .1)) ∙ e)
+
       by : (s ≡ leg-slot c) ⊎ (s ≡ leg-slot c → ⊥) → Usual (k .time)
       by (inl q) = lu k (sym (z .leg) ∙ ap (h .queue) (sym q) ∙ e)
       by (inr n) = other (z .cells s n)

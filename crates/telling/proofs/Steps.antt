@@ -59,8 +59,9 @@ module _ (m : Hall) (g : Good m) where
 
   held : Held (m .queue)
   held = record {
-      within = λ s h. by s h (m .queue s) refl;
-      proper = λ s k e. g .neat s k e .proper }
+    within = λ s h. by s h (m .queue s) refl;
+    proper = λ s k e. g .neat s k e .proper;
+  }
     where
       by : (s : ℕ) → 12352 ≤ s → (o : Option Stamp) → m .queue s ≡ o → m .queue s ≡ None
       by s h None e = e
@@ -90,6 +91,7 @@ module _ (m : Hall) (g : Good m) where
         where
           l : LeastSlot (m .queue) (z .0 .0) (z .0 .1)
           l = first-is (Some (z .0)) (z .1)
+
           pick : (is-earlier (at t) k ≡ true) ⊎ (is-earlier (at t) k ≡ false) → is-earlier (at t) k ≡ true
           pick (inl r) = r
           pick (inr r) = absurd (both-ways (is-earlier (at t) (z .0 .1))
@@ -112,16 +114,21 @@ Fired m s k = FiredAs m s k (ltb s 12288)
 module _ (w : ℕ) (w8 : w ≤ 8) (m : Hall) (g : Good m) (kept : (c : ℕ) → Kept w (path (m .book) c)) where
   bit-step : (a : Axis) (c d : ℕ) (k : Stamp) → c < d → in-hall m c ≡ true → in-hall m d ≡ true → m .queue (slot a c d) ≡ Some k → FiredAs m (slot a c d) k true
   bit-step a c d k p ic id e = record {
-      same-sky = refl; same-book = refl;
-      good = bit-good m g k uk a c d p ic id e;
-      fires = subst (λ (rs : List Report). Fires (sky-of m) k (core-of m) (core-of h) rs) told (bit-fires (two c d) a (bit-flips m g k uk a c d p ic id e)) }
+    same-sky = refl;
+    same-book = refl;
+    good = bit-good m g k uk a c d p ic id e;
+    fires = subst (λ (rs : List Report). Fires (sky-of m) k (core-of m) (core-of h) rs) told (bit-fires (two c d) a (bit-flips m g k uk a c d p ic id e));
+  }
     where
       h : Hall
       h = then (take-away fired (slot a c d)) (fire-kind true (slot a c d) k) m .hall
+
       uk : Usual (k .time)
       uk = g .neat (slot a c d) k e
+
       q : d < 64
       q = g .low d id
+
       told : machine.telling (core-of m) (core-of (then (take-away fired (slot a c d)) (fire-kind true (slot a c d) k) m .hall)) (two c d) k ≡ stepped-with (k .time) (news-in (slot a c d) m (then (take-away fired (slot a c d)) (fire-kind true (slot a c d) k) m .hall))
       told = λ i. stepped-with (k .time) (news (together (sym (slot-lower a c d p q) i) (sym (slot-higher a c d p q) i) m) (together (sym (slot-lower a c d p q) i) (sym (slot-higher a c d p q) i) (then (take-away fired (slot a c d)) (fire-kind true (slot a c d) k) m .hall)) (sym (slot-lower a c d p q) i) (sym (slot-higher a c d p q) i))
 
@@ -139,14 +146,17 @@ module _ (w : ℕ) (w8 : w ≤ 8) (m : Hall) (g : Good m) (kept : (c : ℕ) → 
     where
       uk : Usual (k .time)
       uk = g .neat (leg-slot c) k e
+
       same : c ≡ leg-slot c - 12288
       same = omega arith
+
       here : LegStep c c k
       here = record {
-          same-sky = leg-sky m g k uk w w8 kept c ic e;
-          same-book = leg-amidst c k m ic .0 .0;
-          good = leg-good m g k uk w w8 kept c ic e;
-          fires = leg-fires c (leg-rereads m g k uk w w8 kept c ic e) }
+        same-sky = leg-sky m g k uk w w8 kept c ic e;
+        same-book = leg-amidst c k m ic .0 .0;
+        good = leg-good m g k uk w w8 kept c ic e;
+        fires = leg-fires c (leg-rereads m g k uk w w8 kept c ic e);
+      }
 
   pub fires-due : (s : ℕ) (k : Stamp) → m .queue s ≡ Some k → Fired m s k
   fires-due s k e = by (g .live s k e)
@@ -261,4 +271,5 @@ module _ (w : ℕ) (w8 : w ≤ 8) where
         same-book = i .same-book ∙ z .same-book;
         runs = machine.step (f .1) (core-of (next-hall f m)) (record { bits = λ j p a k q. l .0 .least _ k q; legs = λ c p k q. l .0 .least _ k q }) (l .1) (z .fires)
             (subst (λ (y : Sky). Runs y t (core-of e) (core-of (next-hall f m)) qs) (z .same-sky) (i .runs));
-        plain = plain-join (told-by f m) qs (told-plain m f (g .neat (f .0) (f .1) (l .0 .here))) (i .plain) }
+        plain = plain-join (told-by f m) qs (told-plain m f (g .neat (f .0) (f .1) (l .0 .here))) (i .plain);
+      }

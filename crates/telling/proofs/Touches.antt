@@ -114,7 +114,7 @@ module _ (m : Hall) where
   pub pairs-in : (c d : ℕ) → c < 64 → d < 64 → Close c d → c * 64 + d ∈ pairs m
   pairs-in c d hc hd z =
       joined-in (pairs-of m) (entered m) c (c * 64 + d) (in-those (in-hall m) all-craft c (below-craft c hc) (z .first))
-          (Memᴰ·map (λ d. c * 64 + d) (in-those (close c) all-craft d (below-craft d hd) (and-from (ltb c d && in-hall m d) (together c d m) (and-from (ltb c d) (in-hall m d) (lt-ltb c d (z .order)) (z .second)) (z .bits))))
+      (Memᴰ·map (λ d. c * 64 + d) (in-those (close c) all-craft d (below-craft d hd) (and-from (ltb c d && in-hall m d) (together c d m) (and-from (ltb c d) (in-hall m d) (lt-ltb c d (z .order)) (z .second)) (z .bits))))
 
 module _ (hold : Reports-hold) (bits : Bits-tell) (rest : Changes-rest) (stay : Paths-stay) (b : Book) (lawful : Lawful b) (small : b .scale ≤ 8) (calls : List Call) where
   abbrev pub now : State
@@ -186,12 +186,13 @@ module _ (hold : Reports-hold) (bits : Bits-tell) (rest : Changes-rest) (stay : 
           where
             out : (x : ℕ) → x ∈ pairs (now .hall) → (c : ℕ) × (d : ℕ) × (c < d) × (x ≡ c * 64 + d) × TouchAt b calls t c d
             out x p = let z = pairs-out (now .hall) x p in (z .0, z .1, z .3 .order, z .2, told (z .0) (z .1) (z .3 .order) (z .3 .first) (z .3 .second) (z .3 .bits))
+
             back : (x : ℕ) → (c : ℕ) × (d : ℕ) × (c < d) × (x ≡ c * 64 + d) × TouchAt b calls t c d → x ∈ pairs (now .hall)
             back x q =
                 let fc = in-now (q .0) (q .4 .0) (q .4 .2) in
                 let fd = in-now (q .1) (q .4 .1) (q .4 .3) in
                 subst (λ (y : ℕ). y ∈ pairs (now .hall)) (sym (q .3))
-                    (pairs-in (now .hall) (q .0) (q .1) (low-now (q .0) fc) (low-now (q .1) fd) (record { order = q .2; first = fc; second = fd; bits = untold (q .0) (q .1) (q .2) (q .4) }))
+                (pairs-in (now .hall) (q .0) (q .1) (low-now (q .0) fc) (low-now (q .1) fd) (record { order = q .2; first = fc; second = fd; bits = untold (q .0) (q .1) (q .2) (q .4) }))
 
   pub touching-holds : Touching b calls
   touching-holds = record { asked = asked; listed = listed }

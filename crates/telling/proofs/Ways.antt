@@ -71,12 +71,14 @@ goal-right t n d e f = go (parts e)
         let y = or-parts (eqb d 0) (ltb 16000 d) (z .0) in
         let x = eqb-false d 0 (y .0) in
         (omega (arith, x), ltb-false 16000 d (y .1), ltb-false (50000 * d) n (z .1))
+
     go : (0 < d) × (d ≤ 16000) × (n ≤ 50000 * d) → Goal t n d
     go z =
         let l = least-terms n d (z .0) in
         record {
           usual = record { proper = l .right .proper; small = omega (arith, l .small, z .1); inside = least-inside n d 50000 (least n d) (z .0) (l .right) (z .2); coprime = l .right .coprime };
-          later = not-after-trans t (record { num = n; den = d }) (least n d) (z .0) (ltb-false (n * t .den) (t .num * d) f) (let s = l .right .same in omega (arith, s)) }
+          later = not-after-trans t (record { num = n; den = d }) (least n d) (z .0) (ltb-false (n * t .den) (t .num * d) f) (let s = l .right .same in omega (arith, s));
+        }
 
 -- ---- what an answer tells
 abbrev pub answer-reports : Answer → List Report
@@ -99,9 +101,10 @@ module _ (w : ℕ) (w8 : w ≤ 8) where
 
   ran-more : (g : Fraction) (m : Hall) (f : ℕ × Stamp) → next-due g m ≡ Some f → (r : Ran) → Ran-on g r (next-hall f m) → Ran-on g (and-then (step (f .0) (f .1) m) r) m
   ran-more g m f e r i = record {
-      told = told-by f m ++ i .told;
-      goes = more f e (i .goes);
-      page = ap (λ (p : List ℕ). records (step (f .0) (f .1) m .time) (step (f .0) (f .1) m .news) ++ p) (i .page) ∙ records-page (step (f .0) (f .1) m .time) (step (f .0) (f .1) m .news) (i .told) }
+    told = told-by f m ++ i .told;
+    goes = more f e (i .goes);
+    page = ap (λ (p : List ℕ). records (step (f .0) (f .1) m .time) (step (f .0) (f .1) m .news) ++ p) (i .page) ∙ records-page (step (f .0) (f .1) m .time) (step (f .0) (f .1) m .news) (i .told);
+  }
 
   pub run-goes : (k : ℕ) (g : Fraction) (lines bytes : ℕ) (m : Hall) → Good m → KeptPaths w w8 m → Ran-on g (run-in k g lines bytes m) m
   run-goes zero g lines bytes m gm kept = record { told = []; goes = stop; page = refl }
@@ -114,7 +117,7 @@ module _ (w : ℕ) (w8 : w ≤ 8) where
       by go (Some f) e None =
           let z = fires-due w w8 m gm kept (f .0) (f .1) (due-first m gm g f e .0 .here) in
           ran-more g m f e (run-in k g (lines - length (step (f .0) (f .1) m .out .lines)) (bytes - length (records (step (f .0) (f .1) m .time) (step (f .0) (f .1) m .news))) (next-hall f m))
-              (go (lines - length (step (f .0) (f .1) m .out .lines)) (bytes - length (records (step (f .0) (f .1) m .time) (step (f .0) (f .1) m .news))) (next-hall f m) (z .good) (kept-on w w8 m (next-hall f m) (z .same-book) kept))
+          (go (lines - length (step (f .0) (f .1) m .out .lines)) (bytes - length (records (step (f .0) (f .1) m .time) (step (f .0) (f .1) m .news))) (next-hall f m) (z .good) (kept-on w w8 m (next-hall f m) (z .same-book) kept))
 
   -- ---- the way on from the hall m₀ at s
   module _ (s : Fraction) (m₀ : Hall) (g₀ : Good m₀) (kept₀ : KeptPaths w w8 m₀) where
@@ -134,9 +137,11 @@ module _ (w : ℕ) (w8 : w ≤ 8) where
         let b = fit-none _ _ _ (a .1) in
         let c = fit-none _ _ _ (b .1) in
         let q = goal-right t n d (b .0) (c .0) in
-        let y = way-at rs (z .clock) (quiet t) (z .hall) (mine-quiet (z .clock) t (a .0)) v in
-        (q .usual, not-after-trans s t (least n d) (y .0 .proper) (y .1) (q .later),
-         goes-later w w8 t (least n d) (y .0 .proper) (q .usual .proper) (at-not-earlier t (least n d) (q .later)) (z .hall) m₀ rs g₀ kept₀ (y .2))
+        let y = way-at rs (z .clock) (quiet t) (z .hall) (mine-quiet (z .clock) t (a .0)) v in (
+          q .usual,
+          not-after-trans s t (least n d) (y .0 .proper) (y .1) (q .later),
+          goes-later w w8 t (least n d) (y .0 .proper) (q .usual .proper) (at-not-earlier t (least n d) (q .later)) (z .hall) m₀ rs g₀ kept₀ (y .2),
+        )
 
     step-way : (t g : Fraction) (z : State) (rs : List Report) → z .clock ≡ due t g → (f : Option (ℕ × Stamp)) → next-due g (z .hall) ≡ f → isSome f ≡ true → Way rs (z .clock) (z .hall) →
         Way (rs ++ answer-reports (stepping-to f z .answer)) (stepping-to f z .state .clock) (stepping-to f z .state .hall)
@@ -144,7 +149,7 @@ module _ (w : ℕ) (w8 : w ≤ 8) where
     step-way t g z rs c (Some f) e i v =
         let y = way-at rs (z .clock) (due t g) (z .hall) c v in
         way-at (rs ++ (told-by f (z .hall) ++ [])) (due t g) (z .clock) (next-hall f (z .hall)) (sym c)
-            (y .0, y .1, goes-join g (next-hall f (z .hall)) (z .hall) m₀ rs (told-by f (z .hall) ++ []) (y .2) (more f e stop))
+        (y .0, y .1, goes-join g (next-hall f (z .hall)) (z .hall) m₀ rs (told-by f (z .hall) ++ []) (y .2) (more f e stop))
 
     run-way : (t g : Fraction) (slip page : ℕ) (z : State) (rs : List Report) → z .clock ≡ due t g → Way rs (z .clock) (z .hall) → Way (rs ++ page-reports (run g slip page (z .hall) .page)) (z .clock) (run g slip page (z .hall) .hall)
     run-way t g slip page z rs c v =
@@ -154,9 +159,9 @@ module _ (w : ℕ) (w8 : w ≤ 8) where
         let r = run-goes (suc (left (z .hall))) g slip page (z .hall) (q .good) kz in
         let p = goes-gone w w8 g (run g slip page (z .hall) .hall) (z .hall) (r .told) (q .good) kz (r .goes) in
         way-as (rs ++ r .told) (rs ++ page-reports (run g slip page (z .hall) .page)) (z .clock) (run g slip page (z .hall) .hall)
-            (ap (λ (ls : List Report). rs ++ ls) (sym (page-back (run g slip page (z .hall) .page) (r .told) (r .page) (p .plain))))
-            (way-at (rs ++ r .told) (due t g) (z .clock) (run g slip page (z .hall) .hall) (sym c)
-                (y .0, y .1, goes-join g (run g slip page (z .hall) .hall) (z .hall) m₀ rs (r .told) (y .2) (r .goes)))
+        (ap (λ (ls : List Report). rs ++ ls) (sym (page-back (run g slip page (z .hall) .page) (r .told) (r .page) (p .plain))))
+        (way-at (rs ++ r .told) (due t g) (z .clock) (run g slip page (z .hall) .hall) (sym c)
+        (y .0, y .1, goes-join g (run g slip page (z .hall) .hall) (z .hall) m₀ rs (r .told) (y .2) (r .goes)))
 
     none-due : {A : Type 0} (o : Option A) → isSome o ≡ false → o ≡ None
     none-due None e = refl
