@@ -3,6 +3,7 @@ ghost use mathlib.Core.Path.{_≡_};
 ghost use mathlib.Core.Bool.{not};
 ghost use Rattle.model.specs.Refusals.{not-mine};
 ghost use Rattle.model.specs.Show.{Small-show};
+ghost use Rattle.model.specs.Statement.{Promise};
 ghost use Rattle.hall.specs.Of.{quiet-of, due-of, state-of};
 ghost use Rattle.hall.specs.Told.{Opening};
 
@@ -36,9 +37,11 @@ impl<B: FlightBook, Q: EventQueue> Hall<B, Q> {
         }
     }
 
-    /// Opens a hall over a book and an empty queue, at time 0; or hands both back.
+    /// Opens a hall over a book and an empty queue, at time 0; or hands both back. Refused, in this order: scale above 8, queue holds something.
+    /// Its contract carries what the hall promises of every list of calls, which the contracts of the calls tie to this code, and a small show computed.
     pub fn open(book: B, queue: Q) -> Result<(Hall<B, Q>, Quiet), (B, Q, Refusal)>
         ensures opening { λ r. ⌜ Opening meaning holds book queue r ⌝ }
+        ensures promise { λ r. ⌜ Promise ⌝ }
         ensures show { λ r. ⌜ Small-show ⌝ }
     {
         if book.scale() > 8 {
