@@ -75,7 +75,8 @@ told-some (Some p) = refl
 pub opened-is : (b : Book) (q : Queue) (m : Hall) → Held q → is-nothing (soonest q) ≡ true → m ≡ joined b q empty → (k : Clock) → k ≡ opened b .clock → _≡_ {A = State} (record { hall = m; clock = k }) (opened b)
 opened-is b q m held e p k f i = record {
   hall = (p ∙ ap (λ (x : Queue). joined b x empty) (fun-ext (empty-right q held .0 e))) i;
-  clock = f i }
+  clock = f i;
+}
 
 -- SETTING
 
@@ -102,15 +103,15 @@ pub set-past : (t : Fraction) (n d : ℕ) (z : State) (g : Fraction) → not-min
 set-past t n d z g e f p = let m = made n d g f in later 1 _ _ _ e (later 11 _ _ _ (m .some) (here 12 _ _ (goal-before n d t (m .some) ∙ ap (λ (x : Fraction). is-before x t) (sym (m .is)) ∙ p)))
 
 pub set-performed : (time : Time) (old : Option Time) (t g : Fraction) (n d : ℕ) (m : Hall) → not-mine (record { hall = m; clock = clock-at time old }) (quiet t) ≡ false → Ok g ≡ time-made n d → is-before g t ≡ false →
-  Performed (setting t n d) (record { hall = m; clock = clock-at time old }) (record { hall = m; clock = due (time-of time) g }) (accepted (clock (due t g)))
+    Performed (setting t n d) (record { hall = m; clock = clock-at time old }) (record { hall = m; clock = due (time-of time) g }) (accepted (clock (due t g)))
 set-performed time old t g n d m e f p =
     let w = made n d g f in
     let z : State = record { hall = m; clock = clock-at time old } in
     let same = time-known time old t (not-false _ e) in
     done-performed (setting t n d) z _ _
-      (later 1 _ _ _ e (later 11 _ _ _ (w .some) (later 12 _ _ None (goal-before n d t (w .some) ∙ ap (λ (x : Fraction). is-before x t) (sym (w .is)) ∙ p) refl)))
-      (λ i. record { hall = m; clock = due (sym same i) (w .is i) })
-      (λ i. accepted (clock (due t (w .is i))))
+    (later 1 _ _ _ e (later 11 _ _ _ (w .some) (later 12 _ _ None (goal-before n d t (w .some) ∙ ap (λ (x : Fraction). is-before x t) (sym (w .is)) ∙ p) refl)))
+    (λ i. record { hall = m; clock = due (sym same i) (w .is i) })
+    (λ i. accepted (clock (due t (w .is i))))
 
 -- RESTING
 
@@ -121,7 +122,7 @@ pub rest-early : (t g : Fraction) (z : State) → not-mine z (due t g) ≡ false
 rest-early t g z e f = later 1 _ _ _ e (here 14 _ _ f)
 
 pub rest-performed : (t g : Fraction) (z : State) → not-mine z (due t g) ≡ false → isSome (next-due g (z .hall)) ≡ false →
-  Performed (resting t g) z (record { hall = z .hall; clock = quiet g }) (accepted (clock (quiet g)))
+    Performed (resting t g) z (record { hall = z .hall; clock = quiet g }) (accepted (clock (quiet g)))
 rest-performed t g z e f = done-performed (resting t g) z _ _ (later 1 _ _ _ e (later 14 _ _ None f refl)) refl refl
 
 -- OPENING

@@ -49,7 +49,8 @@ entering-fits t c b z s e =
     record {
       craft = low;
       right = not-false (box-right b) (u .1 .1 .1 .0);
-      fits = record { room = omega (arith, room, w .lines); numbers = omega (arith, numbers, w .most) } }
+      fits = record { room = omega (arith, room, w .lines); numbers = omega (arith, numbers, w .most) };
+    }
 
 pub record Left (c : ℕ) (m : Hall) (s : List ℕ) : Type 0 where
   pub craft : c < 64

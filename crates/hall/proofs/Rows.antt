@@ -58,24 +58,28 @@ at-none call z e = ap (λ (o : Option ℕ). unless o call z) e
 pub refused-performed : (call : Call) (z : State) (n : ℕ) → refusal call z ≡ Some n → Performed call z z (refused n)
 refused-performed call z n e = let p = at-refusal call z n e in record {
   state = sym (ap (λ (d : Done). d .state) p);
-  result = sym (ap (λ (d : Done). d .answer .result) p) }
+  result = sym (ap (λ (d : Done). d .answer .result) p);
+}
 
 pub refused-wrote : (call : Call) (z : State) (n : ℕ) (s : List ℕ) → refusal call z ≡ Some n → Wrote call z z (refused n) s s 0
 refused-wrote call z n s e = let p = at-refusal call z n e in record {
   performed = refused-performed call z n e;
   slip = sym (ap (λ (d : Done). onto (d .answer .lines) s) p);
-  count = sym (ap (λ (d : Done). length (d .answer .lines)) p) }
+  count = sym (ap (λ (d : Done). length (d .answer .lines)) p);
+}
 
 -- a call that is carried out
 pub done-performed : (call : Call) (z z′ : State) (r : Result) → refusal call z ≡ None → z′ ≡ carried-out call z .state → r ≡ carried-out call z .answer .result → Performed call z z′ r
 done-performed call z z′ r e p q = let a = at-none call z e in record {
   state = p ∙ sym (ap (λ (d : Done). d .state) a);
-  result = q ∙ sym (ap (λ (d : Done). d .answer .result) a) }
+  result = q ∙ sym (ap (λ (d : Done). d .answer .result) a);
+}
 
 -- a change whose move wrote its lines from the start
 pub change-wrote : (t : Fraction) (x : Change) (z : State) (m : Hall) (s s′ : List ℕ) (n : ℕ) → refusal (changing t x (length s)) z ≡ None →
-  floor.Wrote (make x (at t)) 0 (z .hall) m s s′ n → Wrote (changing t x (length s)) z (record { hall = m; clock = z .clock }) (accepted done) s s′ n
+    floor.Wrote (make x (at t)) 0 (z .hall) m s s′ n → Wrote (changing t x (length s)) z (record { hall = m; clock = z .clock }) (accepted done) s s′ n
 change-wrote t x z m s s′ n e w = let a = at-none (changing t x (length s)) z e in record {
   performed = done-performed (changing t x (length s)) z _ _ e (ap (λ (h : Hall). record { hall = h; clock = z .clock }) (w .hall)) refl;
   slip = w .slip ∙ written-start (make x (at t) (z .hall) .lines) s ∙ sym (ap (λ (d : Done). onto (d .answer .lines) s) a);
-  count = w .count ∙ zero-add _ ∙ sym (ap (λ (d : Done). length (d .answer .lines)) a) }
+  count = w .count ∙ zero-add _ ∙ sym (ap (λ (d : Done). length (d .answer .lines)) a);
+}

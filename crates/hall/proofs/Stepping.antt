@@ -70,17 +70,19 @@ step-fits t g z s f k h e =
 
 -- a step that fired f at k
 pub step-wrote : (t g : Fraction) (z : State) (f : ℕ) (k : Stamp) (m : Hall) (s s′ : List ℕ) (n number : ℕ) (time : Fraction) (told : Option News) →
-  refusal (stepping t g (length s)) z ≡ None → next-due g (z .hall) ≡ Some (f, k) → floor.Wrote (fire f k) 0 (z .hall) m s s′ n →
-  number ≡ step f k (z .hall) .number → time ≡ step f k (z .hall) .time → told ≡ step f k (z .hall) .news →
-  Wrote (stepping t g (length s)) z (record { hall = m; clock = z .clock }) (accepted (stepped number time told)) s s′ n
+    refusal (stepping t g (length s)) z ≡ None → next-due g (z .hall) ≡ Some (f, k) → floor.Wrote (fire f k) 0 (z .hall) m s s′ n →
+    number ≡ step f k (z .hall) .number → time ≡ step f k (z .hall) .time → told ≡ step f k (z .hall) .news →
+    Wrote (stepping t g (length s)) z (record { hall = m; clock = z .clock }) (accepted (stepped number time told)) s s′ n
 step-wrote t g z f k m s s′ n number time told e d w p q r =
     let a = at-none (stepping t g (length s)) z e ∙ ap (λ (o : Option (ℕ × Stamp)). stepping-to o z) d in
     record {
       performed = record {
         state = ap (λ (h : Hall). record { hall = h; clock = z .clock }) (w .hall) ∙ sym (ap (λ (x : Done). x .state) a);
-        result = (λ i. accepted (stepped (p i) (q i) (r i))) ∙ sym (ap (λ (x : Done). x .answer .result) a) };
+        result = (λ i. accepted (stepped (p i) (q i) (r i))) ∙ sym (ap (λ (x : Done). x .answer .result) a);
+      };
       slip = w .slip ∙ written-start (fire f k (z .hall) .lines) s ∙ sym (ap (λ (x : Done). onto (x .answer .lines) s) a);
-      count = w .count ∙ zero-add _ ∙ sym (ap (λ (x : Done). length (x .answer .lines)) a) }
+      count = w .count ∙ zero-add _ ∙ sym (ap (λ (x : Done). length (x .answer .lines)) a);
+    }
 
 -- A RUN
 
@@ -91,10 +93,11 @@ run-wrong t g z s p e =
     record {
       wrote = refused-wrote call z 1 s (here 1 _ _ e);
       page = sym (ap (λ (x : Done). onto (x .answer .page) p) a);
-      bytes = sym (ap (λ (x : Done). length (x .answer .page)) a) }
+      bytes = sym (ap (λ (x : Done). length (x .answer .page)) a);
+    }
 
 pub run-wrote : (t g : Fraction) (z : State) (m : Hall) (s s′ p p′ : List ℕ) (e k n b : ℕ) → not-mine z (due t g) ≡ false → Went g (z .hall) m s s′ p p′ e k n b →
-  Paged (running t g (length s) (length p)) z (record { hall = m; clock = z .clock }) (accepted (ran e k)) s s′ n p p′ b
+    Paged (running t g (length s) (length p)) z (record { hall = m; clock = z .clock }) (accepted (ran e k)) s s′ n p p′ b
 run-wrote t g z m s s′ p p′ e k n b f w =
     let call = running t g (length s) (length p) in
     let a = at-none call z (later 1 _ _ None f refl) in
@@ -103,11 +106,14 @@ run-wrote t g z m s s′ p p′ e k n b f w =
       wrote = record {
         performed = record {
           state = ap (λ (h : Hall). record { hall = h; clock = z .clock }) (w .hall) ∙ sym (ap (λ (x : Done). x .state) a);
-          result = (λ i. accepted (ran (w .ended i) (w .steps i))) ∙ sym (ap (λ (x : Done). x .answer .result) a) };
+          result = (λ i. accepted (ran (w .ended i) (w .steps i))) ∙ sym (ap (λ (x : Done). x .answer .result) a);
+        };
         slip = w .slip ∙ ap (λ (j : ℕ). r .lines ++ drop j s) (w .lines) ∙ sym (ap (λ (x : Done). onto (x .answer .lines) s) a);
-        count = w .lines ∙ sym (ap (λ (x : Done). length (x .answer .lines)) a) };
+        count = w .lines ∙ sym (ap (λ (x : Done). length (x .answer .lines)) a);
+      };
       page = w .page ∙ ap (λ (j : ℕ). r .page ++ drop j p) (w .bytes) ∙ sym (ap (λ (x : Done). onto (x .answer .page) p) a);
-      bytes = w .bytes ∙ sym (ap (λ (x : Done). length (x .answer .page)) a) }
+      bytes = w .bytes ∙ sym (ap (λ (x : Done). length (x .answer .page)) a);
+    }
 
 -- THE LIST
 
@@ -118,11 +124,12 @@ list-wrong t z s e =
     record {
       performed = refused-performed call z 1 (here 1 _ _ e);
       list = sym (ap (λ (x : Done). onto (x .answer .list) s) a);
-      count = sym (ap (λ (x : Done). length (x .answer .list)) a) }
+      count = sym (ap (λ (x : Done). length (x .answer .list)) a);
+    }
 
 pub list-told : (t : Fraction) (z : State) (s s′ : List ℕ) (r : Result ℕ Refusal) → length s′ ≡ length s → not-mine z (quiet t) ≡ false →
-  Cases r (λ n. runs.Listed (z .hall) s s′ n) (λ e. runs.TooShort (z .hall) s s′ × (number-of e ≡ 15)) →
-  Listed (listing t (length s)) z (done-told r) s s′ (count-told r)
+    Cases r (λ n. runs.Listed (z .hall) s s′ n) (λ e. runs.TooShort (z .hall) s s′ × (number-of e ≡ 15)) →
+    Listed (listing t (length s)) z (done-told r) s s′ (count-told r)
 list-told t z s s′ (Ok n) kept f w =
     let call = listing t (length s) in
     let fits : length (pairs (z .hall)) ≤ length s = omega (arith, kept, ap length (w .list), w .count, length-append (pairs (z .hall)) (drop n s), length-drop n s) in
@@ -130,7 +137,8 @@ list-told t z s s′ (Ok n) kept f w =
     record {
       performed = done-performed call z z (accepted done) (later 1 _ _ _ f (later 15 _ _ None (le-ltb (length s) (length (pairs (z .hall))) fits) refl)) refl refl;
       list = w .list ∙ ap (λ (j : ℕ). pairs (z .hall) ++ drop j s) (w .count) ∙ sym (ap (λ (x : Done). onto (x .answer .list) s) a);
-      count = w .count ∙ sym (ap (λ (x : Done). length (x .answer .list)) a) }
+      count = w .count ∙ sym (ap (λ (x : Done). length (x .answer .list)) a);
+    }
 list-told t z s s′ (Err e) kept f w =
     let call = listing t (length s) in
     let b : refusal call z ≡ Some (number-of e) = later 1 _ _ _ f (here 15 _ _ (lt-ltb (length s) (length (pairs (z .hall))) (w .0 .short))) ∙ ap Some (sym (w .1)) in
@@ -138,4 +146,5 @@ list-told t z s s′ (Err e) kept f w =
     record {
       performed = refused-performed call z (number-of e) b;
       list = w .0 .list ∙ sym (ap (λ (x : Done). onto (x .answer .list) s) a);
-      count = sym (ap (λ (x : Done). length (x .answer .list)) a) }
+      count = sym (ap (λ (x : Done). length (x .answer .list)) a);
+    }

@@ -73,6 +73,6 @@ BackIfRefused k (Err p) = p .0 ≡ k
 module _ {B Q : Type 0} where
   abbrev pub Opening : (meaning : B → Book) → (holds : Q → Queue) → B → Q → code.Result (hall.Hall B Q × Quiet) (B × Q × Refusal) → Type 0
   Opening meaning holds b q (Ok p) =
-    (opening-refusal (meaning b) (holds q) ≡ None) × (state-of meaning holds (p .0) ≡ opened (meaning b)) × (quiet-of (p .1) ≡ quiet (tick 0))
+      (opening-refusal (meaning b) (holds q) ≡ None) × (state-of meaning holds (p .0) ≡ opened (meaning b)) × (quiet-of (p .1) ≡ quiet (tick 0))
   Opening meaning holds b q (Err p) =
-    (opening-refusal (meaning b) (holds q) ≡ Some (number-of (p .2))) × (p .0 ≡ b) × (p .1 ≡ q)
+      (opening-refusal (meaning b) (holds q) ≡ Some (number-of (p .2))) × (p .0 ≡ b) × (p .1 ≡ q)

@@ -6,7 +6,6 @@ ghost use Rattle.model.specs.Show.{Small-show};
 ghost use Rattle.model.specs.Statement.{Promise};
 ghost use Rattle.hall.specs.Of.{quiet-of, due-of, state-of};
 ghost use Rattle.hall.specs.Told.{Opening};
-
 use crate::hall::Due;
 use crate::hall::Hall;
 use crate::hall::Quiet;
@@ -50,7 +49,11 @@ impl<B: FlightBook, Q: EventQueue> Hall<B, Q> {
         if !queue.is_empty() {
             return Err((book, queue, Refusal::QueueHolds));
         }
-        let hall = Hall { floor: Floor::new(book, queue), time: Time::zero(), goal: None };
+        let hall = Hall {
+            floor: Floor::new(book, queue),
+            time: Time::zero(),
+            goal: None,
+        };
         Ok((hall, Quiet { at: Time::zero() }))
     }
 }

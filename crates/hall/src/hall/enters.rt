@@ -7,7 +7,6 @@ ghost use Rattle.model.specs.Calls.{changing, entering, leaving};
 ghost use Rattle.model.specs.Refusals.{refusal};
 ghost use Rattle.hall.specs.Of.{state-of};
 ghost use Rattle.hall.specs.Told.{refused-by, Wrote, done-told, count-told};
-
 use crate::hall::Hall;
 use crate::hall::Quiet;
 use books::FlightBook;
@@ -18,7 +17,13 @@ use times::Refusal;
 
 impl<B: FlightBook, Q: EventQueue> Hall<B, Q> {
     /// The first row of the table that fits an entering.
-    fn refuses_enter(&self, q: &Quiet, craft: u8, half: (u16, u16, u16), room: usize) -> Option<Refusal>
+    fn refuses_enter(
+        &self,
+        q: &Quiet,
+        craft: u8,
+        half: (u16, u16, u16),
+        room: usize,
+    ) -> Option<Refusal>
         ensures { λ r. ⌜ refused-by r ≡ refusal (changing (time-of (now (q .entry) .at)) (entering craft (sizes (half .0) (half .1) (half .2))) room) (state-of meaning holds (now (self .entry))) ⌝ }
     {
         if !self.knows(q) {
@@ -44,7 +49,13 @@ impl<B: FlightBook, Q: EventQueue> Hall<B, Q> {
 
     /// Enters a craft with its half sizes on the axes x, y and z, and returns how many lines were written.
     /// Refused, in this order: wrong clock, craft out of range, already entered, half size out of range, slip below 190 lines, fewer than 190 numbers left.
-    pub fn enter(&mut self, q: &Quiet, craft: u8, half: (u16, u16, u16), slip: &mut [u32]) -> Result<usize, Refusal>
+    pub fn enter(
+        &mut self,
+        q: &Quiet,
+        craft: u8,
+        half: (u16, u16, u16),
+        slip: &mut [u32],
+    ) -> Result<usize, Refusal>
         ensures { λ r. ⌜ Wrote (changing (time-of (now (q .entry) .at)) (entering craft (sizes (half .0) (half .1) (half .2))) (length (now (slip .entry)))) (state-of meaning holds (now (self .entry))) (state-of meaning holds (now (self .exit))) (done-told r) (now (slip .entry)) (now (slip .exit)) (count-told r) ⌝ }
     {
         if let Some(e) = self.refuses_enter(q, craft, half, slip.len()) {

@@ -5,7 +5,6 @@ ghost use Rattle.model.specs.Calls.{setting, resting};
 ghost use Rattle.model.specs.Refusals.{refusal};
 ghost use Rattle.hall.specs.Of.{state-of};
 ghost use Rattle.hall.specs.Told.{refused-by, Performed, set-told, rest-told, BackIfRefused};
-
 use crate::hall::Due;
 use crate::hall::Hall;
 use crate::hall::Quiet;

@@ -7,7 +7,6 @@ ghost use Rattle.model.specs.Calls.{touching, touches, listing, asking, certifi
 ghost use Rattle.hall.specs.Of.{state-of};
 ghost use Rattle.hall.specs.Told.{Performed, answer-told, done-told, count-told};
 ghost use Rattle.hall.specs.ToldOn.{Listed};
-
 use crate::hall::Hall;
 use crate::hall::Quiet;
 use books::FlightBook;

@@ -7,7 +7,6 @@ ghost use Rattle.model.specs.Refusals.{refusal};
 ghost use Rattle.hall.specs.Of.{state-of};
 ghost use Rattle.hall.specs.Told.{refused-by, Wrote};
 ghost use Rattle.hall.specs.ToldOn.{step-told, step-count, Paged, run-told, run-lines, run-bytes, Back};
-
 use crate::hall::Due;
 use crate::hall::Hall;
 use books::FlightBook;
@@ -53,7 +52,12 @@ impl<B: FlightBook, Q: EventQueue> Hall<B, Q> {
     }
 
     /// Steps until nothing is due by the goal, or room or numbers might not suffice for another step; refused for a wrong clock. The clock comes back.
-    pub fn run(&mut self, d: Due, slip: &mut [u32], page: &mut [u8]) -> Result<(Due, Ran), (Due, Refusal)>
+    pub fn run(
+        &mut self,
+        d: Due,
+        slip: &mut [u32],
+        page: &mut [u8],
+    ) -> Result<(Due, Ran), (Due, Refusal)>
         ensures performed { λ r. ⌜ Paged (running (time-of (d .at)) (time-of (d .goal)) (length (now (slip .entry))) (length (now (page .entry)))) (state-of meaning holds (now (self .entry))) (state-of meaning holds (now (self .exit))) (run-told r) (now (slip .entry)) (now (slip .exit)) (run-lines r) (now (page .entry)) (now (page .exit)) (run-bytes r) ⌝ }
         ensures back { λ r. ⌜ Back d r ⌝ }
     {

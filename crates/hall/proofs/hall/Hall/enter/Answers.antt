@@ -34,4 +34,4 @@ returns g c =
     let b = sizes (h .0) (h .1) (h .2) in
     let e = sizes-made (h .0) (h .1) (h .2) (box-of (c .in-Ok .sizes)) (sym (ap box-told (c .in-Ok .is)) ∙ c .new .ensures) in
     change-wrote t (entering (c .args .craft) b) z _ (c .args .slip .now) _ _ (sym (c .refuses-enter .ensures) ∙ ap refused-by (c .in-rest .is))
-      (wrote-alike (c .args .craft) b (box-of (c .in-Ok .sizes)) (at t) (moment-of (c .at .result)) (z .hall) _ (c .args .slip .now) _ _ e (c .at .ensures) (c .enter .ensures))
+    (wrote-alike (c .args .craft) b (box-of (c .in-Ok .sizes)) (at t) (moment-of (c .at .result)) (z .hall) _ (c .args .slip .now) _ _ e (c .at .ensures) (c .enter .ensures))

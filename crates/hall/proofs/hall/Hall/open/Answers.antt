@@ -12,12 +12,16 @@ use Rattle.hall.proofs.hall.Hall.open.Needs as need
 pub returns-then-scale-gt8 : need.returns-then-scale-gt8
 returns-then-scale-gt8 g c = record {
   opening = (open-scale (g .B·FlightBook .meaning (c .args .book)) (g .Q·EventQueue .holds (c .args .queue)) (subst (λ (k : ℕ). 8 < k) (c .scale .ensures) (c .if-scale-gt8 .taken)), refl, refl);
-  promise = promise; show = small-show }
+  promise = promise;
+  show = small-show;
+}
 
 pub returns-then-not-is-empty : need.returns-then-not-is-empty
 returns-then-not-is-empty g c = record {
   opening = (open-holds (g .B·FlightBook .meaning (c .args .book)) (g .Q·EventQueue .holds (c .args .queue)) (subst (λ (k : ℕ). k ≤ 8) (c .scale .ensures) (c .if-scale-gt8 .left)) (sym (c .is-empty .ensures) ∙ c .if-not-is-empty .taken), refl, refl);
-  promise = promise; show = small-show }
+  promise = promise;
+  show = small-show;
+}
 
 pub returns : need.returns
 returns g c =
@@ -27,5 +31,8 @@ returns g c =
       opening = (
         open-none (g .B·FlightBook .meaning (c .args .book)) (g .Q·EventQueue .holds (c .args .queue)) (subst (λ (k : ℕ). k ≤ 8) (c .scale .ensures) (c .if-scale-gt8 .left)) e,
         opened-is (g .B·FlightBook .meaning (c .args .book)) (g .Q·EventQueue .holds (c .args .queue)) _ held e (c .new .ensures) _ (ap quiet (c .zero .ensures)),
-        ap quiet (c .zero-2 .ensures));
-      promise = promise; show = small-show }
+        ap quiet (c .zero-2 .ensures),
+      );
+      promise = promise;
+      show = small-show;
+    }

@@ -14,7 +14,8 @@ returns-then-before g c =
     let u = time-of (c .in-Ok .goal) in
     record {
       performed = refused-performed (setting t (c .args .n) (c .args .d)) z 12 (set-past t (c .args .n) (c .args .d) z u (c .knows .ensures ∙ ap not (c .if-not-knows .left)) (sym (ap time-told (c .in-Ok .is)) ∙ c .new .ensures) (sym (c .before-2 .ensures) ∙ c .if-before .taken));
-      back = refl }
+      back = refl;
+    }
 
 pub returns : need.returns
 returns g c =
@@ -23,4 +24,5 @@ returns g c =
     let u = time-of (c .in-Ok .goal) in
     record {
       performed = set-performed (c .args .self .now .time) (c .args .self .now .goal) t u (c .args .n) (c .args .d) (z .hall) (c .knows .ensures ∙ ap not (c .if-not-knows .left)) (sym (ap time-told (c .in-Ok .is)) ∙ c .new .ensures) (sym (c .before-2 .ensures) ∙ c .if-before .left);
-      back = tt }
+      back = tt;
+    }

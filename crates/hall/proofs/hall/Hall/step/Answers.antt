@@ -25,7 +25,7 @@ pub returns : need.returns
 returns g c =
     let z = state-of (g .B·FlightBook .meaning) (g .Q·EventQueue .holds) (c .args .self .now) in
     step-wrote (time-of (c .args .d .now .at)) (time-of (c .args .d .now .goal)) z (c .in-Some-due .due .0) (moment-of (c .in-Some-due .due .1)) _ (c .args .slip .now) _ _ _ _ _
-      (sym (c .refuses-step .ensures) ∙ ap refused-by (c .in-rest .is)) (sym (c .due .ensures .value) ∙ ap first-told (c .in-Some-due .is)) (c .step .ensures .wrote) (c .step .ensures .number) (c .step .ensures .time) (c .step .ensures .news)
+    (sym (c .refuses-step .ensures) ∙ ap refused-by (c .in-rest .is)) (sym (c .due .ensures .value) ∙ ap first-told (c .in-Some-due .is)) (c .step .ensures .wrote) (c .step .ensures .number) (c .step .ensures .time) (c .step .ensures .news)
 
 pub returns-in-Some : need.returns-in-Some
 returns-in-Some g c =
