@@ -4,6 +4,7 @@ use floor::Floor;
 use queues::EventQueue;
 use times::Time;
 
+mod changes;
 mod clocks;
 mod enters;
 mod goals;
