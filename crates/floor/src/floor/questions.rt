@@ -111,4 +111,18 @@ impl<B: FlightBook, Q: EventQueue> Floor<B, Q> {
     {
         self.book.follows(c, leader)
     }
+
+    /// How many legs a filed plan may have.
+    pub fn leg_limit(&self) -> u8
+        ensures { λ r. ⌜ r ≡ hall-of meaning holds (now (self .entry)) .book .limit ⌝ }
+    {
+        self.book.leg_limit()
+    }
+
+    /// How many levels of seats there are.
+    pub fn levels(&self) -> u8
+        ensures { λ r. ⌜ r ≡ hall-of meaning holds (now (self .entry)) .book .levels ⌝ }
+    {
+        self.book.levels()
+    }
 }
