@@ -56,6 +56,7 @@ module _ (c : ℕ) (b e : Book) (s : Beside c b e) where
       seat-same : ((k : ℕ) → follows-at e j c k ≡ follows-at b j c k) → (o : Option ℕ) → in-seat (follows-at e j c) o ≡ in-seat (follows-at b j c) o
       seat-same h None = refl
       seat-same h (Some k) = h k
+
       by : ((k : ℕ) → follows-at e j c k ≡ follows-at b j c k) → (eqb d c ≡ true) ⊎ (eqb d c ≡ false) →
           (follows-at e j c d || in-seat (follows-at e j c) (e .seat j d)) ≡ (follows-at b j c d || in-seat (follows-at b j c) (b .seat j d))
       by h (inl q) =

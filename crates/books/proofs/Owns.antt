@@ -40,11 +40,12 @@ changed-right x b r = by x (book-refusal x b) refl
     by : (x : BookChange) (o : Option ℕ) → book-refusal x b ≡ o → OwnRight (changed-unless o x b)
     by x (Some n) e = r
     by (file c p) None e = record {
-        own = put-right (Right (b .levels) (b .scale)) (b .own) c (path-of p)
-            (kept-right (b .levels) (b .scale) (path-of p) (r .low) (plan-kept p (accepted-right (out-of-range c) (plan-right p) (ltb (b .limit) (p .count)) e)))
-            (r .own);
-        low = r .low;
-        high = r .high }
+      own = put-right (Right (b .levels) (b .scale)) (b .own) c (path-of p)
+          (kept-right (b .levels) (b .scale) (path-of p) (r .low) (plan-kept p (accepted-right (out-of-range c) (plan-right p) (ltb (b .limit) (p .count)) e)))
+          (r .own);
+      low = r .low;
+      high = r .high;
+    }
     by (ride c j k) None e = record { own = r .own; low = r .low; high = r .high }
 
 pub frames-stay : Frames-stay

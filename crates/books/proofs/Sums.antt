@@ -15,6 +15,7 @@ use Rattle.rules.specs.Fractions.{Fraction, tick, is-before, whole}
 use Rattle.rules.specs.Paths.{Axis, Path, Line, Kept, sum, speed-at, line-at, leg, first-after, min-with}
 use Rattle.plans.specs.Lines.{line-of, plus}
 use Rattle.plans.proofs.Flown.{of-places, line-plus}
+use Rattle.books.specs.Breaks.{earlier}
 use Rattle.books.specs.Right.{Right}
 
 -- the size of a sum, where each part leaves room for one level more
@@ -31,7 +32,7 @@ summed : (l m : ℕ) (a b : ℤ) → natAbs a * 2 ^ suc l ≤ m → natAbs b * 2
 summed l m a b h k =
     let e = pow-succ' 2 l in
     double (natAbs a) (natAbs b) (natAbs (a +ℤ b)) (2 ^ l) m (sum-size a b)
-        (subst (λ (n : ℕ). natAbs a * n ≤ m) e h) (subst (λ (n : ℕ). natAbs b * n ≤ m) e k)
+    (subst (λ (n : ℕ). natAbs a * n ≤ m) e h) (subst (λ (n : ℕ). natAbs b * n ≤ m) e k)
 
 fewer : (l m x : ℕ) → x * 2 ^ suc l ≤ m → x * 2 ^ l ≤ m
 fewer l m x h = half x (2 ^ l) m (subst (λ (n : ℕ). x * n ≤ m) (pow-succ' 2 l) h)
@@ -60,12 +61,13 @@ module _ (p q : Path) where
 
   pub right-sum : (l s : ℕ) → Right (suc l) s p → Right (suc l) s q → Right l s (sum p q)
   right-sum l s f g = record {
-      turns = sum-turns (f .turns) (g .turns);
-      stays = λ a i h. ap₂ _+ℤ_ (f .stays a i h) (g .stays a i h);
-      ends = sum-ends (f .ends) (g .ends);
-      places = λ a i. summed l (51000000 * s) (p .place a i) (q .place a i) (f .places a i) (g .places a i);
-      slopes = λ a i. subst (λ (v : ℤ). natAbs v * 2 ^ l ≤ 1000 * s) (sym (sum-slope p q a i)) (summed l (1000 * s) (speed-at p a i) (speed-at q a i) (f .slopes a i) (g .slopes a i));
-      bases = λ a i. subst (λ (v : ℤ). natAbs v * 2 ^ l ≤ 101000000 * s) (sym (sum-base p q a i)) (summed l (101000000 * s) (line-at p a i .base) (line-at q a i .base) (f .bases a i) (g .bases a i)) }
+    turns = sum-turns (f .turns) (g .turns);
+    stays = λ a i h. ap₂ _+ℤ_ (f .stays a i h) (g .stays a i h);
+    ends = sum-ends (f .ends) (g .ends);
+    places = λ a i. summed l (51000000 * s) (p .place a i) (q .place a i) (f .places a i) (g .places a i);
+    slopes = λ a i. subst (λ (v : ℤ). natAbs v * 2 ^ l ≤ 1000 * s) (sym (sum-slope p q a i)) (summed l (1000 * s) (speed-at p a i) (speed-at q a i) (f .slopes a i) (g .slopes a i));
+    bases = λ a i. subst (λ (v : ℤ). natAbs v * 2 ^ l ≤ 101000000 * s) (sym (sum-base p q a i)) (summed l (101000000 * s) (line-at p a i .base) (line-at q a i .base) (f .bases a i) (g .bases a i));
+  }
 
   within-sum : (m n : ℕ) (a b : ℤ) → natAbs a ≤ m * n → natAbs b ≤ m * n → natAbs (a +ℤ b) ≤ m * (2 * n)
   within-sum m n a b h k = omega (arith, sum-size a b, h, k)
@@ -73,61 +75,61 @@ module _ (p q : Path) where
   -- the scale doubles
   pub kept-sum : (s : ℕ) → Kept s p → Kept s q → Kept (2 * s) (sum p q)
   kept-sum s f g = record {
-      turns = sum-turns (f .turns) (g .turns);
-      stays = λ a i h. ap₂ _+ℤ_ (f .stays a i h) (g .stays a i h);
-      ends = sum-ends (f .ends) (g .ends);
-      places = λ a i. within-sum 51000000 s (p .place a i) (q .place a i) (f .places a i) (g .places a i);
-      slopes = λ a i. subst (λ (v : ℤ). natAbs v ≤ 1000 * (2 * s)) (sym (sum-slope p q a i)) (within-sum 1000 s (speed-at p a i) (speed-at q a i) (f .slopes a i) (g .slopes a i));
-      bases = λ a i. subst (λ (v : ℤ). natAbs v ≤ 101000000 * (2 * s)) (sym (sum-base p q a i)) (within-sum 101000000 s (line-at p a i .base) (line-at q a i .base) (f .bases a i) (g .bases a i)) }
+    turns = sum-turns (f .turns) (g .turns);
+    stays = λ a i h. ap₂ _+ℤ_ (f .stays a i h) (g .stays a i h);
+    ends = sum-ends (f .ends) (g .ends);
+    places = λ a i. within-sum 51000000 s (p .place a i) (q .place a i) (f .places a i) (g .places a i);
+    slopes = λ a i. subst (λ (v : ℤ). natAbs v ≤ 1000 * (2 * s)) (sym (sum-slope p q a i)) (within-sum 1000 s (speed-at p a i) (speed-at q a i) (f .slopes a i) (g .slopes a i));
+    bases = λ a i. subst (λ (v : ℤ). natAbs v ≤ 101000000 * (2 * s)) (sym (sum-base p q a i)) (within-sum 101000000 s (line-at p a i .base) (line-at q a i .base) (f .bases a i) (g .bases a i));
+  }
 
 pub kept-more : (s r : ℕ) (p : Path) → s ≤ r → Kept s p → Kept r p
 kept-more s r p h f = record {
-    turns = f .turns;
-    stays = f .stays;
-    ends = f .ends;
-    places = λ a i. more 51000000 (f .places a i);
-    slopes = λ a i. more 1000 (f .slopes a i);
-    bases = λ a i. more 101000000 (f .bases a i) }
+  turns = f .turns;
+  stays = f .stays;
+  ends = f .ends;
+  places = λ a i. more 51000000 (f .places a i);
+  slopes = λ a i. more 1000 (f .slopes a i);
+  bases = λ a i. more 101000000 (f .bases a i);
+}
   where
     more : {x : ℕ} (m : ℕ) → x ≤ m * s → x ≤ m * r
     more m k = let g : m ≤ m = omega arith in omega (arith, k, mul-le-mul g h)
 
 pub right-fewer : (l s : ℕ) (p : Path) → Right (suc l) s p → Right l s p
 right-fewer l s p f = record {
-    turns = f .turns;
-    stays = f .stays;
-    ends = f .ends;
-    places = λ a i. fewer l _ _ (f .places a i);
-    slopes = λ a i. fewer l _ _ (f .slopes a i);
-    bases = λ a i. fewer l _ _ (f .bases a i) }
+  turns = f .turns;
+  stays = f .stays;
+  ends = f .ends;
+  places = λ a i. fewer l _ _ (f .places a i);
+  slopes = λ a i. fewer l _ _ (f .slopes a i);
+  bases = λ a i. fewer l _ _ (f .bases a i);
+}
 
 pub right-kept : (s : ℕ) (p : Path) → Right 0 s p → Kept s p
 right-kept s p f = record {
-    turns = f .turns;
-    stays = f .stays;
-    ends = f .ends;
-    places = λ a i. let h = f .places a i in omega arith;
-    slopes = λ a i. let h = f .slopes a i in omega arith;
-    bases = λ a i. let h = f .bases a i in omega arith }
+  turns = f .turns;
+  stays = f .stays;
+  ends = f .ends;
+  places = λ a i. let h = f .places a i in omega arith;
+  slopes = λ a i. let h = f .slopes a i in omega arith;
+  bases = λ a i. let h = f .bases a i in omega arith;
+}
 
 pub kept-right : (l s : ℕ) (p : Path) → 2 ^ l ≤ s → Kept 1 p → Right l s p
 kept-right l s p h f = record {
-    turns = f .turns;
-    stays = f .stays;
-    ends = f .ends;
-    places = λ a i. room 51000000 _ (f .places a i);
-    slopes = λ a i. room 1000 _ (f .slopes a i);
-    bases = λ a i. room 101000000 _ (f .bases a i) }
+  turns = f .turns;
+  stays = f .stays;
+  ends = f .ends;
+  places = λ a i. room 51000000 _ (f .places a i);
+  slopes = λ a i. room 1000 _ (f .slopes a i);
+  bases = λ a i. room 101000000 _ (f .bases a i);
+}
   where
     room : (m x : ℕ) → x ≤ m * 1 → x * 2 ^ l ≤ m * s
     room m x k = let k′ : x ≤ m = omega arith in mul-le-mul k′ h
 
 -- BREAKS
-
--- the earlier of two breaks, where there are any
-abbrev pub earlier : Option ℕ → Option ℕ → Option ℕ
-earlier None p = p
-earlier (Some k) p = Some (min-with k p)
 
 min-earlier : (k : ℕ) (o p : Option ℕ) → min-with k (earlier o p) ≡ min-with (min-with k o) p
 min-earlier k None p = refl

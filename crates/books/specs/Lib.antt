@@ -1,3 +1,6 @@
 pub mod Told
+pub mod Breaks
 pub mod Right
 pub mod Laws
+pub mod Routes
+pub mod Plain

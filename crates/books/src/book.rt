@@ -5,7 +5,6 @@ ghost use Rattle.rules.specs.Books.{Book, Lawful, book-refusal, changed};
 ghost use Rattle.times.specs.Of.{time-of};
 ghost use Rattle.plans.specs.Of.{plan-of};
 ghost use Rattle.books.specs.Told.{filing, seating, refusal-told, leg-told, leg-answer, follow-told, follow-answer};
-
 use plans::LegAnswer;
 use plans::Plan;
 use times::Refusal;

@@ -11,11 +11,11 @@ use Rattle.rules.specs.Stamps.{Stamp, at, is-earlier}
 use Rattle.rules.specs.Paths.{Axis, Path}
 use Rattle.rules.proofs.Stamped.{false-true}
 use Rattle.geometry_laws.proofs.Lists.{earlier-is}
+use Rattle.geometry_laws.specs.Points.{on}
 use Rattle.events.specs.Machine.{Sky, flies, box-of, Pair, In, Core, ends-in, Certified, Reads, Flying, Rested}
 use Rattle.events.specs.Changes.{Stays, Remains, Anew, Changes-rest, Empty-rests}
-use Rattle.events.proofs.Points.{on}
 use Rattle.events.proofs.Legs.{flying-same, flying-now, reads-later}
-use Rattle.events.proofs.Machine.{carried, fails-later}
+use Rattle.events.proofs.Machine.{carried, right-later}
 
 module _ (y y' : Sky) (t : Fraction) (pt : Proper t) (s s' : Core) (rest : Rested y t s) where
   -- a craft that stays flew, with its box
@@ -47,7 +47,7 @@ module _ (y y' : Sky) (t : Fraction) (pt : Proper t) (s s' : Core) (rest : Reste
   quiet-bit : (i : Pair) → In y' i → (a : Axis) → (Remains y y' s s' i a) ⊎ (Anew y' t s' i a) → (k : Stamp) → s' .fails i a ≡ Some k → is-earlier (at t) k ≡ true
   quiet-bit i q a (inl w) k e = rest .quiet .bits i (was-in i a w q) a k (sym (w .fails) ∙ e)
   quiet-bit i q a (inr w) k e =
-      earlier-is (at t) k (fails-later (s' .bit i a) (ends-in y' s' a (i .lower)) (ends-in y' s' a (i .higher)) (on t pt) (s' .fails i a) (w .granted) (w .right) k e)
+      earlier-is (at t) k (right-later (s' .bit i a) (ends-in y' s' a (i .lower)) (ends-in y' s' a (i .higher)) (on t pt) (s' .fails i a) (w .granted) (w .right) k e)
 
 pub changes-rest : Changes-rest
 changes-rest y y' t pt s s' rest ch = record {

@@ -19,9 +19,9 @@ use Rattle.rules.proofs.Ordering.{tests-right}
 use Rattle.geometry_laws.proofs.Lists.{not-earlier-is}
 use Rattle.geometry_laws.proofs.Paths.{Straight, same-leg, place-straight, whole-mono, start-ok, end-ok}
 use Rattle.geometry_laws.proofs.Near.{Alike, alike-self}
+use Rattle.geometry_laws.specs.Points.{Point, Upto}
 use Rattle.model.specs.Moves.{at-break}
 use Rattle.events.specs.Machine.{Reads, Flying}
-use Rattle.events.proofs.Points.{Point, Upto}
 
 -- what an option is not, and what it holds
 abbrev Holds : {A : Type 0} → (A → Type 0) → Option A → Type 0

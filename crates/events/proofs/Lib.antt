@@ -1,4 +1,3 @@
-pub mod Points
 pub mod Tales
 pub mod Pairs
 pub mod Legs

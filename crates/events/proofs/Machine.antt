@@ -8,83 +8,48 @@ use native.Mathlib.Decide.{ℕ-discrete}
 use Rattle.std.specs.declared.option.Option.{Option}
 use Rattle.std.specs.declared.option.Option.the-variants.{Some, None}
 use Rattle.rules.specs.Fractions.{Fraction, Proper, NotAfter, tick}
-use Rattle.rules.specs.Stamps.{Stamp, Earlier, NotEarlier, at, is-earlier}
+use Rattle.rules.specs.Stamps.{Stamp, Earlier, NotEarlier, at}
 use Rattle.rules.specs.Paths.{Axis, Line, leg}
-use Rattle.rules.specs.Boxes.{Box, Ends, ends, overlap, wrong, Fails}
+use Rattle.rules.specs.Boxes.{Box, Ends, ends, overlap, wrong, FirstWrong, Fails}
 use Rattle.rules.specs.Pages.{Report}
 use Rattle.rules.proofs.Order.{not-after-trans}
-use Rattle.rules.proofs.Stamped.{false-true, asym, not-earlier-trans}
-use Rattle.geometry_laws.proofs.Lists.{earlier-is, is-earlier-so, not-earlier-is, not-is-earlier}
-use Rattle.geometry_laws.proofs.Moments.{overlap-same}
+use Rattle.rules.proofs.Stamped.{asym}
+use Rattle.geometry_laws.proofs.Lists.{is-earlier-so, not-earlier-is, not-is-earlier}
+use Rattle.geometry_laws.proofs.Flips.{fails-later}
+use Rattle.geometry_laws.proofs.Track.{is-wrong, tells-until, tells-always, first-advance, never-advance}
 use Rattle.geometry_laws.proofs.Near.{overlap-alike}
+use Rattle.geometry_laws.specs.Points.{Point, Upto, During, on}
+use Rattle.geometry_laws.proofs.Points.{sooner-upto, upto-trans, upto-sooner, sooner-upto-trans}
 use Rattle.events.specs.Machine.{Sky, flies, box-of, Pair, In, Core, ends-in, Certified, Flying, Sound, None-before, Quiet, Flips, Rereads, Fires, bit-fires, leg-fires, Runs, stop, step}
 use Rattle.events.specs.Reports.{Lawful}
-use Rattle.events.proofs.Points.{Point, Upto, During, on, sooner-upto, upto-trans, upto-sooner, sooner-upto-trans, same-time}
 use Rattle.events.proofs.Tales.{every, pair-dec, axis-dec, Right, Halfway, Tale, tale-end, tale-goes, half-goes, tale-flip, half-flip, tale-like}
 use Rattle.events.proofs.Pairs.{so, Turns, sky-kinetic}
 use Rattle.events.proofs.Legs.{flying-alike, flying-on, flying-same, flying-now, reads-proper, upto-time}
 
 -- ---- certificates
-right-is : (bit x : Bool) → wrong bit x ≡ false → bit ≡ x
-right-is true true e = refl
-right-is true false e = absurd (false-true (sym e))
-right-is false true e = absurd (false-true (sym e))
-right-is false false e = refl
-
-wrong-is : (bit x : Bool) → wrong bit x ≡ true → x ≡ not bit
-wrong-is true true e = absurd (false-true e)
-wrong-is true false e = refl
-wrong-is false true e = refl
-wrong-is false false e = absurd (false-true e)
-
 module _ (bit : Bool) (p q : Ends) where
   -- the bit is right until its certificate fails, wrong then, and the certificate stands as the present moves up to it
   fails-right : (m k : Point) (r : Option Stamp) → Fails bit p q (m .stamp) r → Upto m k → NotAfter (k .stamp .time) (tick 50000) → ((f : Stamp) → r ≡ Some f → Earlier (k .stamp) f) → bit ≡ overlap p q (k .stamp)
-  fails-right m k None c u i e = right-is bit (overlap p q (k .stamp)) (c (k .stamp) (k .proper) i (not-earlier-is (k .stamp) (m .stamp) u))
-  fails-right m k (Some f) c u i e = right-is bit (overlap p q (k .stamp)) (c .right-before (k .stamp) (k .proper) (not-earlier-is (k .stamp) (m .stamp) u) (earlier-is (k .stamp) f (e f refl)))
+  fails-right m k None c u i e = sym (tells-always bit p q (m .stamp) (k .stamp) c (k .proper) i u)
+  fails-right m k (Some f) c u i e = sym (tells-until bit p q (m .stamp) f (k .stamp) c (k .proper) u (e f refl))
+
+  fails-first : (m n : Stamp) (r : Option Stamp) → r ≡ Some n → Fails bit p q m r → FirstWrong bit p q m n
+  fails-first m n r e c = subst (λ (r : Option Stamp). Fails bit p q m r) e c
 
   fails-wrong : (m n : Stamp) (r : Option Stamp) → r ≡ Some n → Fails bit p q m r → overlap p q n ≡ not bit
-  fails-wrong m n r e c = wrong-is bit (overlap p q n) (subst (λ (r : Option Stamp). Fails bit p q m r) e c .wrong-then)
-
-  fails-proper : (m n : Stamp) (r : Option Stamp) → r ≡ Some n → Fails bit p q m r → Proper (n .time)
-  fails-proper m n r e c = subst (λ (r : Option Stamp). Fails bit p q m r) e c .proper
-
-  fails-since : (m n : Stamp) (r : Option Stamp) → r ≡ Some n → Fails bit p q m r → is-earlier n m ≡ false
-  fails-since m n r e c = subst (λ (r : Option Stamp). Fails bit p q m r) e c .since
+  fails-wrong m n r e c = is-wrong bit (overlap p q n) (fails-first m n r e c .wrong-then)
 
   fails-on : (m n : Point) (r : Option Stamp) → Fails bit p q (m .stamp) r → Upto m n → ((f : Stamp) → r ≡ Some f → NotEarlier f (n .stamp)) → Fails bit p q (n .stamp) r
-  fails-on m n None c u h = λ j pj ij e. c j pj ij (back j pj e)
-    where
-      back : (j : Stamp) → Proper (j .time) → is-earlier j (n .stamp) ≡ false → is-earlier j (m .stamp) ≡ false
-      back j pj e = not-earlier-is j (m .stamp) (not-earlier-trans (m .stamp) (n .stamp) j (m .proper) (n .proper) pj u (not-is-earlier j (n .stamp) e))
-  fails-on m n (Some f) c u h = record {
-    proper = c .proper;
-    inside = c .inside;
-    since = not-earlier-is f (n .stamp) (h f refl);
-    wrong-then = c .wrong-then;
-    right-before = λ j pj e g. c .right-before j pj (not-earlier-is j (m .stamp) (not-earlier-trans (m .stamp) (n .stamp) j (m .proper) (n .proper) pj u (not-is-earlier j (n .stamp) e))) g;
-  }
+  fails-on m n None c u h = never-advance bit p q (m .stamp) (n .stamp) (m .proper) (n .proper) u c
+  fails-on m n (Some f) c u h = first-advance bit p q (m .stamp) (n .stamp) (m .proper) (n .proper) u f (h f refl) c
 
   -- a bit that is right now has its certificate later
-  pub fails-later : (m : Point) (r : Option Stamp) → Fails bit p q (m .stamp) r → bit ≡ overlap p q (m .stamp) → (f : Stamp) → r ≡ Some f → Earlier (m .stamp) f
-  fails-later m r c t f e = go (is-earlier (m .stamp) f) refl
+  pub right-later : (m : Point) (r : Option Stamp) → Fails bit p q (m .stamp) r → bit ≡ overlap p q (m .stamp) → (f : Stamp) → r ≡ Some f → Earlier (m .stamp) f
+  right-later m r c t f e = fails-later bit p q (m .stamp) f (m .proper) (subst (λ (x : Bool). wrong bit x ≡ false) t (itself bit)) (fails-first (m .stamp) f r e c)
     where
-      there : Point
-      there = record { stamp = f; proper = fails-proper (m .stamp) f r e c }
-
-      go : (x : Bool) → is-earlier (m .stamp) f ≡ x → Earlier (m .stamp) f
-      go true g = is-earlier-so (m .stamp) f g
-      go false g = absurd (clash bit (sym (fails-wrong (m .stamp) f r e c) ∙ same ∙ sym t))
-        where
-          same : overlap p q f ≡ overlap p q (m .stamp)
-          same = at-one-moment there m (not-is-earlier (m .stamp) f g) (not-is-earlier f (m .stamp) (fails-since (m .stamp) f r e c))
-            where
-              at-one-moment : (j k : Point) → Upto j k → Upto k j → overlap p q (j .stamp) ≡ overlap p q (k .stamp)
-              at-one-moment j k u v = let e = same-time j k (u, v) in overlap-same p q (j .stamp) (k .stamp) (j .proper) (k .proper) (e .0) (e .1)
-
-          clash : (b : Bool) → not b ≡ b → ⊥
-          clash true z = false-true z
-          clash false z = false-true (sym z)
+      itself : (b : Bool) → wrong b b ≡ false
+      itself true = refl
+      itself false = refl
 
 -- a certificate whose parts are the same
 pub carried : (b b' : Bool) (x x' z z' : Box) (a : Axis) (l l' k k' : Line) (m : Stamp) (r r' : Option Stamp) → b' ≡ b → x' ≡ x → z' ≡ z → l' ≡ l → k' ≡ k → r' ≡ r →
@@ -94,7 +59,7 @@ carried b b' x x' z z' a l l' k k' m r r' e f g h i j c = rw (e, f, g, h, i, j) 
 module _ (w : ℕ) (y : Sky) (law : Lawful w y) where
   module _ (m : Point) (s : Core) (z : Sound y (m .stamp) s) where
     bit-proper : (i : Pair) → In y i → (a : Axis) (f : Stamp) → s .fails i a ≡ Some f → Proper (f .time)
-    bit-proper i p a f e = fails-proper (s .bit i a) (ends-in y s a (i .lower)) (ends-in y s a (i .higher)) (m .stamp) f (s .fails i a) e (z .bits i p a)
+    bit-proper i p a f e = fails-first (s .bit i a) (ends-in y s a (i .lower)) (ends-in y s a (i .higher)) (m .stamp) f (s .fails i a) e (z .bits i p a) .proper
 
     turn-proper : (c : ℕ) → flies y c ≡ true → (f : Stamp) → s .turn c ≡ Some f → Proper (f .time)
     turn-proper c p f e = reads-proper (y .path c) (z .legs c p .read) (s .leg c) (s .turn c) (z .legs c p .reads) f e
@@ -136,7 +101,7 @@ module _ (w : ℕ) (y : Sky) (law : Lawful w y) where
       -- ---- a bit's certificate fires
       module _ (s' : Core) (i : Pair) (a : Axis) (f : Flips y i a (n .stamp) s s') where
         flips-after : Upto m n
-        flips-after = not-is-earlier (n .stamp) (m .stamp) (fails-since (s .bit i a) (ends-in y s a (i .lower)) (ends-in y s a (i .higher)) (m .stamp) (n .stamp) (s .fails i a) (f .due) (z .bits i (f .inside) a))
+        flips-after = not-is-earlier (n .stamp) (m .stamp) (fails-first (s .bit i a) (ends-in y s a (i .lower)) (ends-in y s a (i .higher)) (m .stamp) (n .stamp) (s .fails i a) (f .due) (z .bits i (f .inside) a) .since)
 
         -- the bit is wrong on the paths
         flips-wrong : so y i a n ≡ not (s .bit i a)

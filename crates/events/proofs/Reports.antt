@@ -17,11 +17,12 @@ use Rattle.rules.specs.Boxes.{Box, Touch, Meets, Parts}
 use Rattle.rules.specs.Pages.{News, met, parted, Report}
 use Rattle.rules.proofs.Order.{not-after-trans}
 use Rattle.rules.proofs.Stamped.{false-true}
+use Rattle.geometry_laws.specs.Points.{turning, Point, Sooner, Upto, on, past}
+use Rattle.geometry_laws.proofs.Points.{upto-self}
 use Rattle.events.specs.Machine.{Sky, box-of, Pair, In}
 use Rattle.events.specs.Reports.{OfPair, Happens, Reports-hold, Bits-tell}
-use Rattle.events.proofs.Points.{Point, Sooner, Upto, on, past, upto-self}
 use Rattle.events.proofs.Tales.{not-itself, news-at, Right, right-all, Halfway, Owed, Tale}
-use Rattle.events.proofs.Pairs.{turning, touch-all, all-touch, so, Touches, Turns}
+use Rattle.events.proofs.Pairs.{touch-all, all-touch, so, Touches, Turns}
 use Rattle.events.proofs.Machine.{right-quiet, tale-runs, sound-runs}
 
 -- ---- sides and times

@@ -12,11 +12,12 @@ use Rattle.rules.specs.Stamps.{Stamp, Earlier, side}
 use Rattle.rules.specs.Paths.{Axis, X, Y, Z, on-every-axis}
 use Rattle.rules.specs.Pages.{News, met, parted, Report}
 use Rattle.rules.proofs.Stamped.{false-true, not-earlier-out}
+use Rattle.geometry_laws.specs.Points.{Point, Sooner, Upto, Same, During}
+use Rattle.geometry_laws.proofs.Points.{sooner-dec, sooner-upto, upto-self, upto-trans, sooner-trans, upto-sooner, sooner-upto-trans, same-sym, same-trans, upto-out, same-time}
 use Rattle.model.specs.Statement.{InOrder, IsParting}
 use Rattle.model.specs.Runs.{news}
 use Rattle.model.specs.Histories.{stepped-with}
 use Rattle.events.specs.Machine.{Pair}
-use Rattle.events.proofs.Points.{Point, Sooner, Upto, Same, During, sooner-dec, sooner-upto, upto-self, upto-trans, sooner-trans, upto-sooner, sooner-upto-trans, same-sym, same-trans, upto-out, same-time}
 
 -- ---- bits, axes and pairs
 pub not-itself : (b : Bool) → b ≡ not b → ⊥

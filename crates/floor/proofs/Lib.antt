@@ -1,3 +1,4 @@
 pub mod Granting
 pub mod Firing
 pub mod Dues
+pub mod Saving

@@ -1,2 +1,2 @@
-pub mod Lines
 pub mod Of
+pub mod Saved

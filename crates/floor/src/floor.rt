@@ -4,6 +4,7 @@ use queues::EventQueue;
 use tables::Tables;
 
 mod bits;
+mod changes;
 mod grants;
 mod legs;
 mod questions;

@@ -4,6 +4,7 @@ pub mod Lists
 pub mod Settled
 pub mod Certificates
 pub mod Quick
+pub mod Scale
 pub mod Moments
 pub mod Soon
 pub mod Lately

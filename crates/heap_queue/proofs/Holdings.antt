@@ -1,30 +1,31 @@
 -- What the tables hold: the root is the least, and a change is a change at one slot.
-use mathlib.Core.Path.{_≡_, refl, sym, ap, _∙_, subst, fun-ext}
-use mathlib.Core.Bool.{Bool, true, false, cond, not, _&&_, _||_}
+use mathlib.Core.Path.{_≡_, sym, ap, _∙_, subst, fun-ext}
+use mathlib.Core.Bool.{Bool, true, false, cond, not}
 use mathlib.Core.List.{List}
-use mathlib.Core.Logic.{_⊎_, inl, inr, ⊎-elim}
-use Prim.Native.Nat.{ℕ, zero, suc, _+_, _-_, _*_, _/_, _≤_, _<_}
+use mathlib.Core.Logic.{_⊎_, ⊎-elim}
+use Prim.Native.Nat.{ℕ, zero, suc, _≤_, _<_}
 use native.Mathlib.Omega.{arith}
-use lib.Dec.{eqb, ltb}
-use lib.ListN.{length, getD, set}
+use lib.Dec.{eqb}
+use lib.ListN.{length, set}
 use Rattle.std.proofs.shelf.Lists.{getD-past}
-use Rattle.std.proofs.shelf.Tests.{cases-eq, cases-lt, cases-bool, both-ways, eq-eqb, ne-eqb, eqb-true, eqb-false, cond-true, cond-false, le-ltb, ltb-false, or-parts, and-cases, not-false}
+use Rattle.std.proofs.shelf.Tests.{cases-eq, cases-lt, cases-bool, both-ways, eq-eqb, ne-eqb, eqb-false, cond-true, cond-false, le-ltb}
 use Rattle.std.specs.declared.option.Option.{Option}
 use Rattle.std.specs.declared.option.Option.the-variants.{Some, None}
 use Rattle.rules.specs.Basics.{put}
 use Rattle.rules.specs.Fractions.{Usual}
 use Rattle.rules.specs.Stamps.{Stamp, is-earlier}
-use Rattle.rules.specs.Slots.{Queue, First, LeastSlot}
+use Rattle.rules.specs.Slots.{Queue, First}
 use Rattle.times.specs.declared.moment.Moment.{Moment}
 use Rattle.times.specs.Of.{moment-of}
-use Rattle.queues.specs.Meanings.{slot-out, changed, soonest, is-nothing}
+use Rattle.queues.specs.Meanings.{soonest, is-nothing}
 use Rattle.queues.specs.Laws.{Held}
+use Rattle.queues.proofs.Changed.{held-by}
 use Rattle.queues.proofs.Firsts.{some-none, some-some, first-only}
 use Rattle.heap_queue.specs.declared.tree.Tree.{Tree}
 use Rattle.heap_queue.specs.Orders.{stamp-at, ranks-before, comes-before, Laws}
-use Rattle.heap_queue.specs.Heaps.{up, slot-of, place-of, absent, Placed, Indexed, Ordered, IndexedBut, OrderedBut, held, SamePlacedBut, SamePlaced}
+use Rattle.heap_queue.specs.Heaps.{up, slot-of, place-of, absent, Placed, Indexed, Ordered, IndexedBut, OrderedBut, held, SamePlacedBut}
 use Rattle.heap_queue.proofs.Orders.{rank-out}
-use Rattle.heap_queue.proofs.Tables.{stamp-read, stamp-usual, stamp-here, stamp-other, stamp-proper, table-laws}
+use Rattle.heap_queue.proofs.Tables.{stamp-usual, stamp-here, stamp-other, table-laws}
 use Rattle.heap_queue.proofs.Gaps.{itself}
 
 -- what is held at a slot without a place, and at one with a place
@@ -46,12 +47,10 @@ placed-below t f k m h = ⊎-elim (λ l. l) (λ l. some-none _ _ (past-none t f 
 pub held-usual : (t : Tree) (ms : List Moment) → length ms ≡ 12352 → (k : ℕ) (m : Stamp) → held t (stamp-at ms) k ≡ Some m → Usual (m .time)
 held-usual t ms size k m h =
     subst (λ (x : Stamp). Usual (x .time)) (held-out t (stamp-at ms) k m h .1)
-      (stamp-usual ms k (omega (arith, placed-below t (stamp-at ms) k m h)))
+    (stamp-usual ms k (omega (arith, placed-below t (stamp-at ms) k m h)))
 
 pub holds-held : (t : Tree) (ms : List Moment) → length ms ≡ 12352 → Held (held t (stamp-at ms))
-holds-held t ms size = record {
-    within = past-none t (stamp-at ms);
-    proper = λ k m h. held-usual t ms size k m h .proper }
+holds-held t ms size = held-by _ (past-none t (stamp-at ms)) (held-usual t ms size)
 
 -- the root comes first of all
 root-by : (before : ℕ → ℕ → Bool) → Laws before → (t : Tree) → Ordered before t → (n i : ℕ) → i ≤ n → i < t .len → before (slot-of t i) (slot-of t 0) ≡ false
@@ -83,17 +82,18 @@ module _ (t : Tree) (ms : List Moment) (ix : Indexed t) (ok : Ordered (comes-bef
 
   pub heap-first : 0 < t .len → First (held t (stamp-at ms)) (Some (slot-of t 0, stamp-at ms (slot-of t 0)))
   heap-first pos = record {
-      here = held-some t (stamp-at ms) (slot-of t 0) (ne-eqb (place-of t (slot-of t 0)) 65535 (λ q. omega (arith, ix .2 0 pos)));
-      least = λ k n h. ranked k n h .0;
-      lowest = λ k n h g. ⊎-elim (λ e. absurd (both-ways _ g e)) (λ l. l) (ranked k n h .1) }
+    here = held-some t (stamp-at ms) (slot-of t 0) (ne-eqb (place-of t (slot-of t 0)) 65535 (λ q. omega (arith, ix .2 0 pos)));
+    least = λ k n h. ranked k n h .0;
+    lowest = λ k n h g. ⊎-elim (λ e. absurd (both-ways _ g e)) (λ l. l) (ranked k n h .1);
+  }
 
   pub heap-empty : t .len ≡ 0 → First (held t (stamp-at ms)) None
   heap-empty none k = ⊎-elim
       (held-none t (stamp-at ms) k)
       (λ e. ⊎-elim
-        (λ small. absurd (omega (arith, ix .3 k small (eqb-false (place-of t k) 65535 e))))
-        (past-none t (stamp-at ms) k)
-        (cases-lt k 12352))
+      (λ small. absurd (omega (arith, ix .3 k small (eqb-false (place-of t k) 65535 e))))
+      (past-none t (stamp-at ms) k)
+      (cases-lt k 12352))
       (cases-bool (absent t k))
 
   pub first-is : 0 < t .len → Some (slot-of t 0, stamp-at ms (slot-of t 0)) ≡ soonest (held t (stamp-at ms))
@@ -116,20 +116,21 @@ module _ (ms : List Moment) (slot : ℕ) (m : Moment) where
 
   pub set-order : (t : Tree) (gap : ℕ) → IndexedBut t gap slot → OrderedBut (comes-before (stamp-at ms)) t gap → OrderedBut (comes-before (stamp-at (set ms slot m))) t gap
   set-order t gap ix but = record {
-      rest = λ k p l n u. same-order _ _ (ix .others k l n) (ix .others (up k) (omega arith) u) ∙ but .rest k p l n u;
-      over = λ k p l pos e.
-        same-order _ _ (ix .others k l (λ q. omega arith)) (ix .others (up gap) (omega (arith, ix .inside)) (λ q. omega arith)) ∙ but .over k p l pos e }
+    rest = λ k p l n u. same-order _ _ (ix .others k l n) (ix .others (up k) (omega arith) u) ∙ but .rest k p l n u;
+    over = λ k p l pos e.
+        same-order _ _ (ix .others k l (λ q. omega arith)) (ix .others (up gap) (omega (arith, ix .inside)) (λ q. omega arith)) ∙ but .over k p l pos e;
+  }
 
   pub put-held : (t u : Tree) → slot < length ms → absent u slot ≡ false → SamePlacedBut t u slot → held u (stamp-at (set ms slot m)) ≡ put (held t (stamp-at ms)) slot (Some (moment-of m))
   put-held t u l there placed = fun-ext λ k. ⊎-elim
       (λ (e : k ≡ slot).
-          held-some u (stamp-at (set ms slot m)) k (ap (absent u) e ∙ there)
-          ∙ ap Some (ap (stamp-at (set ms slot m)) e ∙ stamp-here ms slot m l)
-          ∙ sym (cond-true (eqb k slot) (Some (moment-of m)) (held t (stamp-at ms) k) (eq-eqb k slot e)))
+      held-some u (stamp-at (set ms slot m)) k (ap (absent u) e ∙ there)
+      ∙ ap Some (ap (stamp-at (set ms slot m)) e ∙ stamp-here ms slot m l)
+      ∙ sym (cond-true (eqb k slot) (Some (moment-of m)) (held t (stamp-at ms) k) (eq-eqb k slot e)))
       (λ (n : k ≡ slot → ⊥).
-          let p = placed k n in let q = stamp-other ms slot k m n in
-          (λ i. cond (p i) None (Some (q i)))
-          ∙ sym (cond-false (eqb k slot) (Some (moment-of m)) (held t (stamp-at ms) k) (ne-eqb k slot n)))
+      let p = placed k n in let q = stamp-other ms slot k m n in
+      (λ i. cond (p i) None (Some (q i)))
+      ∙ sym (cond-false (eqb k slot) (Some (moment-of m)) (held t (stamp-at ms) k) (ne-eqb k slot n)))
       (cases-eq k slot)
 
 -- a slot emptied
@@ -137,10 +138,6 @@ pub drop-held : (t u : Tree) (f : ℕ → Stamp) (slot : ℕ) → absent u slot 
 drop-held t u f slot gone placed = fun-ext λ k. ⊎-elim
     (λ (e : k ≡ slot). held-none u f k (ap (absent u) e ∙ gone) ∙ sym (cond-true (eqb k slot) None (held t f k) (eq-eqb k slot e)))
     (λ (n : k ≡ slot → ⊥).
-        let p = placed k n in
-        (λ i. cond (p i) None (Some (f k))) ∙ sym (cond-false (eqb k slot) None (held t f k) (ne-eqb k slot n)))
+    let p = placed k n in
+    (λ i. cond (p i) None (Some (f k))) ∙ sym (cond-false (eqb k slot) None (held t f k) (ne-eqb k slot n)))
     (cases-eq k slot)
-
--- a slot that is not above the last is changed
-pub changed-in : (q : Queue) (slot : ℕ) (o : Option Stamp) → slot < 12352 → put q slot o ≡ changed q slot o
-changed-in q slot o l = sym (cond-false (slot-out slot) q (put q slot o) (le-ltb 12351 slot (omega arith)))

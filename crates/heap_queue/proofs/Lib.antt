@@ -1,5 +1,6 @@
 pub mod Orders
 pub mod Tables
+pub mod Levels
 pub mod Gaps
 pub mod Pigeons
 pub mod Places

@@ -1,8 +1,8 @@
 -- Slots are totally ordered by moment, then by slot.
-use mathlib.Core.Path.{_≡_, refl, sym, ap, _∙_, subst}
-use mathlib.Core.Bool.{Bool, true, false, cond, not, _&&_, _||_}
+use mathlib.Core.Path.{_≡_, refl}
+use mathlib.Core.Bool.{Bool, true, false, not, _&&_, _||_}
 use mathlib.Core.Logic.{_⊎_, inl, inr, ⊎-elim}
-use Prim.Native.Nat.{ℕ, zero, suc, _≤_, _<_}
+use Prim.Native.Nat.{ℕ, _≤_, _<_}
 use native.Mathlib.Omega.{arith}
 use lib.Dec.{ltb}
 use Rattle.std.proofs.shelf.Tests.{cases-bool, both-ways, or-parts, or-from, and-cases, and-left, and-right, not-false, not-from-true, ltb-false, le-ltb, cases-lt}
@@ -39,10 +39,13 @@ module _ (f : ℕ → Stamp) (proper : (k : ℕ) → Proper (f k .time)) where
     where
       a : (is-earlier (f j) (f i) ≡ false) × ((is-earlier (f i) (f j) ≡ true) ⊎ (i ≤ j))
       a = rank-out _ _ j i h
+
       b : (is-earlier (f k) (f j) ≡ false) × ((is-earlier (f j) (f k) ≡ true) ⊎ (j ≤ k))
       b = rank-out _ _ k j g
+
       late : is-earlier (f k) (f i) ≡ false
       late = not-earlier-chain (f i) (f j) (f k) (proper i) (proper j) (proper k) (a .0) (b .0)
+
       go : (is-earlier (f i) (f k) ≡ true) ⊎ (is-earlier (f i) (f k) ≡ false) → ranks-before (f k) k (f i) i ≡ false
       go (inl t) = rank-in _ _ k i late (inl t)
       go (inr e) = rank-in _ _ k i late (inr (level (a .1) (b .1)))
@@ -55,5 +58,6 @@ module _ (f : ℕ → Stamp) (proper : (k : ℕ) → Proper (f k .time)) where
   pub order-laws : Laws (comes-before f)
   unfolding comes-before
   order-laws = record {
-      apart = λ i j h. apart-of (is-earlier (f i) (f j)) (is-earlier (f j) (f i)) i j (earlier-apart (f i) (f j)) h;
-      chain = chain-of }
+    apart = λ i j h. apart-of (is-earlier (f i) (f j)) (is-earlier (f j) (f i)) i j (earlier-apart (f i) (f j)) h;
+    chain = chain-of;
+  }

@@ -1,6 +1,6 @@
 -- n numbers below m, no two alike: n is at most m.
-use mathlib.Core.Path.{_≡_, refl, sym, ap, _∙_, subst}
-use mathlib.Core.Bool.{Bool, true, false, cond}
+use mathlib.Core.Path.{_≡_, sym, ap, _∙_, subst}
+use mathlib.Core.Bool.{cond}
 use mathlib.Core.Logic.{_⊎_, inl, inr, ⊎-elim}
 use Prim.Native.Nat.{ℕ, zero, suc, _+_, _≤_, _<_}
 use native.Mathlib.Omega.{arith}
@@ -36,11 +36,11 @@ module _ (f : ℕ → ℕ) (m n i : ℕ) (li : i < suc n) (top : f i ≡ m) (low
   fits : (j : ℕ) → j < n → swapped f n i j < m
   fits j l = ⊎-elim
       (λ (e : j ≡ i).
-          let ne : f n ≡ m → ⊥ = λ q. omega (arith, ap-f n i (omega arith) li (q ∙ sym top)) in
-          subst (λ (x : ℕ). x < m) (sym (at-i f n i j e)) (omega (arith, low n (omega arith))))
+      let ne : f n ≡ m → ⊥ = λ q. omega (arith, ap-f n i (omega arith) li (q ∙ sym top)) in
+      subst (λ (x : ℕ). x < m) (sym (at-i f n i j e)) (omega (arith, low n (omega arith))))
       (λ (x : j ≡ i → ⊥).
-          let ne : f j ≡ m → ⊥ = λ q. x (ap-f j i (omega arith) li (q ∙ sym top)) in
-          subst (λ (y : ℕ). y < m) (sym (off-i f n i j x)) (omega (arith, low j (omega arith))))
+      let ne : f j ≡ m → ⊥ = λ q. x (ap-f j i (omega arith) li (q ∙ sym top)) in
+      subst (λ (y : ℕ). y < m) (sym (off-i f n i j x)) (omega (arith, low j (omega arith))))
       (cases-eq j i)
 
   still : Apart n (swapped f n i)
@@ -73,13 +73,16 @@ spare m n v f lv low distinct none = omega (arith, pigeons m (suc n) (added f v 
   where
     last : (j : ℕ) → j ≡ n → added f v n j ≡ v
     last j e = cond-true (eqb j n) v (f j) (eq-eqb j n e)
+
     rest : (j : ℕ) → (j ≡ n → ⊥) → added f v n j ≡ f j
     rest j e = cond-false (eqb j n) v (f j) (ne-eqb j n e)
+
     below : (j : ℕ) → j < suc n → added f v n j < m
     below j l = ⊎-elim
         (λ (e : j ≡ n). subst (λ (x : ℕ). x < m) (sym (last j e)) lv)
         (λ (x : j ≡ n → ⊥). subst (λ (y : ℕ). y < m) (sym (rest j x)) (low j (omega arith)))
         (cases-eq j n)
+
     unlike : Apart (suc n) (added f v n)
     unlike j k lj lk e = go (cases-eq j n) (cases-eq k n)
       where

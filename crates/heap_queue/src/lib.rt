@@ -3,4 +3,5 @@ mod order;
 pub mod queue;
 mod tree;
 
+pub use queue::HeapEventQueue;
 pub use queue::HeapQueue;

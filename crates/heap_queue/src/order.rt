@@ -3,7 +3,6 @@ ghost use mathlib.Core.Path.{_≡_};
 ghost use Prim.Native.Nat.{_<_};
 ghost use Rattle.times.specs.Of.{moment-of};
 ghost use Rattle.heap_queue.specs.Orders.{stamp-at, ranks-before, comes-before};
-
 use queues::SLOTS;
 use times::Moment;
 

@@ -4,12 +4,13 @@ ghost use Prim.Native.Nat.{_≤_};
 ghost use lib.ListN.{length};
 ghost use Rattle.heap_queue.specs.Orders.{stamp-at, comes-before};
 ghost use Rattle.heap_queue.specs.Heaps.{Slots, Places, Within, Found, Ordered};
-
 use crate::tree::Tree;
 use queues::SLOTS;
 use times::Moment;
 
 mod calls;
+
+pub use calls::HeapEventQueue;
 
 /// A queue. A slot holds its moment where it stands in the heap, and nothing elsewhere.
 #[derive(Drop)]

@@ -26,11 +26,11 @@ module _ (t : Fraction) (k : ℕ) (ks : List ℕ) where
       by (yes h) =
           let e : min k i ≡ k = omega arith in
           subst (λ (n : ℕ). LeastAfter t (k ∷ ks) (Some n)) (sym e)
-              (List·Memᴰ·head refl, b, λ j m c. ⊎-elim (λ (q : j ≡ k). omega arith) (λ (m′ : j ∈ ks). let z = l .2 j m′ c in omega arith) (List·Memᴰ·cases-cons m))
+          (List·Memᴰ·head refl, b, λ j m c. ⊎-elim (λ (q : j ≡ k). omega arith) (λ (m′ : j ∈ ks). let z = l .2 j m′ c in omega arith) (List·Memᴰ·cases-cons m))
       by (no h) =
           let e : min k i ≡ i = omega arith in
           subst (λ (n : ℕ). LeastAfter t (k ∷ ks) (Some n)) (sym e)
-              (List·Memᴰ·tail (l .0), l .1, λ j m c. ⊎-elim (λ (q : j ≡ k). omega arith) (λ (m′ : j ∈ ks). l .2 j m′ c) (List·Memᴰ·cases-cons m))
+          (List·Memᴰ·tail (l .0), l .1, λ j m c. ⊎-elim (λ (q : j ≡ k). omega arith) (λ (m′ : j ∈ ks). l .2 j m′ c) (List·Memᴰ·cases-cons m))
 
   not-here : ¬ (Before t (tick k)) → (o : Option ℕ) → LeastAfter t ks o → LeastAfter t (k ∷ ks) o
   not-here n None l = λ j m c. ⊎-elim (λ (e : j ≡ k). n (subst (λ (x : ℕ). Before t (tick x)) e c)) (λ (m′ : j ∈ ks). l j m′ c) (List·Memᴰ·cases-cons m)

@@ -83,6 +83,7 @@ part-small v f u i hv o l = go (decLt i f) (decLt i u)
   where
     flip : (z : ℤ) → natAbs z ≤ 50000000 → natAbs (negℤ z) ≤ 50000000
     flip z h = omega (arith, ints)
+
     go : Dec (i < f) → Dec (i < u) → Part (leg-line v f u i)
     go (yes h) k = rw (lt-ltb i f h) (record { base = omega arith; slope = omega arith })
     go (no h) (yes k) = rw (le-ltb i f (omega arith), lt-ltb i u k) (record { base = flip (v *ℤ pos f) (times-within v f 1000 50000 hv (omega arith)); slope = hv })
@@ -96,9 +97,10 @@ right-from (l ∷ ls) (suc k) end r = right-from ls k end (rest-right (leg-of l)
 
 pub leg-right-at : (n : ℕ) (ls : List Leg) (k end : ℕ) → n ≤ length ls → k < n → legs-right (legs-of (take n ls)) end ≡ true →
     LegRight (leg-of (getD ls k blank)) (until (legs-of (drop (k + 1) (take n ls))) end) × (until (legs-of (drop (k + 1) (take n ls))) end ≤ end)
-leg-right-at n ls k end h l r =
-    (first-right _ (legs-of (drop (k + 1) (take n ls))) end (subst (λ (xs : List Leg). legs-right (legs-of xs) end ≡ true) (from-leg n ls k blank h l) (right-from (take n ls) k end r)),
-     until-end (legs-of (drop (k + 1) (take n ls))) end (right-from (take n ls) (k + 1) end r))
+leg-right-at n ls k end h l r = (
+  first-right _ (legs-of (drop (k + 1) (take n ls))) end (subst (λ (xs : List Leg). legs-right (legs-of xs) end ≡ true) (from-leg n ls k blank h l) (right-from (take n ls) k end r)),
+  until-end (legs-of (drop (k + 1) (take n ls))) end (right-from (take n ls) (k + 1) end r),
+)
 
 plus-assoc : (l m n : ℤ × ℤ) → plus (plus l m) n ≡ plus l (plus m n)
 plus-assoc l m n = pair-≡ (three (l .0) (m .0) (n .0)) (three (l .1) (m .1) (n .1))

@@ -64,8 +64,8 @@ gone-straight : (ls : List Leg) (end : ℕ) (a : Axis) (i : ℕ) → legs-right 
 gone-straight [] end a i r n = refl
 gone-straight (l ∷ ls) end a i r n =
     legs-step (l .speed a) (gone ls end a i) (gone ls end a (suc i)) (gone ls end a (suc (suc i))) _ _ _
-        (even (until ls end) (l .from) i (first-right l ls end r .order) (λ e. n (List·Memᴰ·head e)) (no-break-until ls end (suc i) (λ m. n (List·Memᴰ·tail m))))
-        (gone-straight ls end a i (rest-right l ls end r) (λ m. n (List·Memᴰ·tail m)))
+    (even (until ls end) (l .from) i (first-right l ls end r .order) (λ e. n (List·Memᴰ·head e)) (no-break-until ls end (suc i) (λ m. n (List·Memᴰ·tail m))))
+    (gone-straight ls end a i (rest-right l ls end r) (λ m. n (List·Memᴰ·tail m)))
 
 onto : (s x y z : ℤ) → z -ℤ y ≡ y -ℤ x → (s +ℤ z) -ℤ (s +ℤ y) ≡ (s +ℤ y) -ℤ (s +ℤ x)
 onto s x y z e = omega (arith, ints, e)
@@ -108,8 +108,8 @@ plus-base a b v w i = rw distr (omega (arith, ints))
 pub line-plus : (p q : ℕ → ℤ) (i : ℕ) → of-places (λ j. p j +ℤ q j) i ≡ plus (of-places p i) (of-places q i)
 line-plus p q i =
     pair-≡ _ _ _ _
-        (ap (λ (v : ℤ). (p i +ℤ q i) -ℤ (v *ℤ pos i)) (plus-slope (p (suc i)) (q (suc i)) (p i) (q i)) ∙ plus-base (p i) (q i) (p (suc i) -ℤ p i) (q (suc i) -ℤ q i) i)
-        (plus-slope (p (suc i)) (q (suc i)) (p i) (q i))
+    (ap (λ (v : ℤ). (p i +ℤ q i) -ℤ (v *ℤ pos i)) (plus-slope (p (suc i)) (q (suc i)) (p i) (q i)) ∙ plus-base (p i) (q i) (p (suc i) -ℤ p i) (q (suc i) -ℤ q i) i)
+    (plus-slope (p (suc i)) (q (suc i)) (p i) (q i))
 
 -- a function that agrees with a line at two ticks runs on it between them
 line-by : (p : ℕ → ℤ) (i : ℕ) (a v : ℤ) → p i ≡ a +ℤ (v *ℤ pos i) → p (suc i) ≡ a +ℤ (v *ℤ pos (suc i)) → of-places p i ≡ (a, v)
@@ -119,6 +119,7 @@ line-by p i a v e f =
   where
     slope : (x y : ℤ) → x ≡ a +ℤ (v *ℤ pos i) → y ≡ a +ℤ (v *ℤ pos (suc i)) → y -ℤ x ≡ v
     slope x y e f = omega (arith, ints, e, f)
+
     base : (x : ℤ) → x ≡ a +ℤ (v *ℤ pos i) → x -ℤ (v *ℤ pos i) ≡ a
     base x e = omega (arith, ints, e)
 
@@ -161,7 +162,7 @@ legs-line-is (l ∷ ls) end a i r =
 pub plan-line-is : (p : Plan) (a : Axis) (i : ℕ) → legs-right (p .legs) (p .end) ≡ true → line-of (plus (p .start a, pos 0) (legs-line (p .legs) (p .end) a i)) ≡ line-at (path-of p) a i
 plan-line-is p a i r =
     ap line-of (sym (line-plus (λ _. p .start a) (gone (p .legs) (p .end) a) i
-        ∙ ap₂ plus (still (p .start a) i) (legs-line-is (p .legs) (p .end) a i r)))
+    ∙ ap₂ plus (still (p .start a) i) (legs-line-is (p .legs) (p .end) a i r)))
 
 -- SLOPES
 
@@ -179,10 +180,13 @@ legs-slope (l ∷ ls) end a i r = go (legs-slope ls end a i (rest-right l ls end
   where
     o : l .from < until ls end
     o = first-right l ls end r .order
+
     u : until ls end ≤ end
     u = until-end ls end (rest-right l ls end r)
+
     v : ℤ
     v = l .speed a
+
     go : Slope (until ls end) end i (legs-line ls end a i .1) → Dec (i < l .from) → Dec (i < until ls end) → Slope (l .from) end i (leg-line v (l .from) (until ls end) i .1 +ℤ legs-line ls end a i .1)
     go h (yes x) y = rw (lt-ltb i (l .from) x, h .early (omega (arith, o))) (slope-zero (l .from) end i)
     go h (no x) (yes y) = rw (le-ltb i (l .from) (omega arith), lt-ltb i (until ls end) y, h .early y)
@@ -213,7 +217,8 @@ right-plan p e =
       low = leb-true _ _ (f .0);
       high = leb-true _ _ (f .1);
       legs = b .1;
-      last = leb-true _ _ (a .1) }
+      last = leb-true _ _ (a .1);
+    }
 
 break-ends : (ls : List Leg) (end k : ℕ) → legs-right ls end ≡ true → k ∈ starts ls end → k ≤ end
 break-ends [] end k r m = ⊎-elim (λ (e : k ≡ end). omega arith) (λ (m′ : k ∈ []). absurd (List·Memᴰ·not-nil m′)) (List·Memᴰ·cases-cons m)
@@ -250,24 +255,26 @@ module _ (p : Plan) (right : plan-right p ≡ true) where
 
   pub plan-kept : Kept 1 (path-of p)
   plan-kept = record {
-      turns = λ a i n. onto (p .start a) _ _ _ (gone-straight (p .legs) (p .end) a i (q .legs) n);
-      stays = λ a i h. ap (λ (z : ℤ). p .start a +ℤ z) (let e = q .last in gone-stays (p .legs) (p .end) a i 50000 (q .legs) (omega arith) (omega arith));
-      ends = λ k m. let e = q .last in let h = break-ends (p .legs) (p .end) k (q .legs) m in omega arith;
-      places = place-within;
-      slopes = λ a i. let h = slope-right a i .size in omega (arith, h);
-      bases = λ a i. let h = diff-within (path-of p .place a i) (speed-at (path-of p) a i *ℤ pos i) _ _ (place-within a i) (step-within a i) in omega (arith, h) }
+    turns = λ a i n. onto (p .start a) _ _ _ (gone-straight (p .legs) (p .end) a i (q .legs) n);
+    stays = λ a i h. ap (λ (z : ℤ). p .start a +ℤ z) (let e = q .last in gone-stays (p .legs) (p .end) a i 50000 (q .legs) (omega arith) (omega arith));
+    ends = λ k m. let e = q .last in let h = break-ends (p .legs) (p .end) k (q .legs) m in omega arith;
+    places = place-within;
+    slopes = λ a i. let h = slope-right a i .size in omega (arith, h);
+    bases = λ a i. let h = diff-within (path-of p .place a i) (speed-at (path-of p) a i *ℤ pos i) _ _ (place-within a i) (step-within a i) in omega (arith, h);
+  }
 
 pub plans-kept : Plans-kept
 plans-kept = plan-kept
 
 pub standing-kept : Standing-kept
 standing-kept = record {
-    turns = λ a i n. refl;
-    stays = λ a i h. refl;
-    ends = λ k m. absurd (List·Memᴰ·not-nil m);
-    places = λ a i. omega arith;
-    slopes = λ a i. omega arith;
-    bases = λ a i. let e = ap (λ (l : ℤ × ℤ). natAbs (l .0)) (still (pos 0) i) in omega (arith, e) }
+  turns = λ a i n. refl;
+  stays = λ a i h. refl;
+  ends = λ k m. absurd (List·Memᴰ·not-nil m);
+  places = λ a i. omega arith;
+  slopes = λ a i. omega arith;
+  bases = λ a i. let e = ap (λ (l : ℤ × ℤ). natAbs (l .0)) (still (pos 0) i) in omega (arith, e);
+}
 
 -- BREAKS
 
@@ -299,6 +306,7 @@ starts-least (l ∷ ls) end w r = go (starts-least ls end w (rest-right l ls end
     weaker : (o : Option ℕ) → AtLeast (until ls end) o → AtLeast (l .from) o
     weaker None h = tt
     weaker (Some j) h = let o = first-right l ls end r .order in omega arith
+
     go : AtLeast (until ls end) (first-past w (starts ls end)) → Dec (w < l .from) → AtLeast (l .from) (cond (ltb w (l .from)) (Some (l .from)) (first-past w (starts ls end)))
     go g (yes h) = rw (lt-ltb w (l .from) h) (omega arith)
     go g (no h) = rw (le-ltb w (l .from) (omega arith)) (weaker (first-past w (starts ls end)) g)
@@ -314,4 +322,4 @@ first-break (l ∷ ls) end t pt r =
     let h = first-break ls end t pt (rest-right l ls end r) in
     ap₂ (λ (b : Bool) (o : Option ℕ). cond b (Some (min-with (l .from) o)) o) (before-is t (l .from) pt) h
     ∙ ap (λ (k : ℕ). cond (ltb (whole t) (l .from)) (Some k) (first-past (whole t) (starts ls end)))
-        (min-with-least (l .from) (until ls end) (first-past (whole t) (starts ls end)) (first-right l ls end r .order) (starts-least ls end (whole t) (rest-right l ls end r)))
+    (min-with-least (l .from) (until ls end) (first-past (whole t) (starts ls end)) (first-right l ls end r .order) (starts-least ls end (whole t) (rest-right l ls end r)))

@@ -47,9 +47,11 @@ pub answered : (r : Route) (l : LegAnswer) (t : Fraction) (i : ℕ) → Proper t
     line-of (l .x) ≡ line-at (route-path r) X i → line-of (l .y) ≡ line-at (route-path r) Y i → line-of (l .z) ≡ line-at (route-path r) Z i →
     l .next ≡ first-past i (route-path r .breaks) → answer-of l ≡ leg-asked (route-path r) t
 answered r l t i pt e x y z n =
-    λ j. (xyz-≡ (leg (route-path r) t) (line-of (l .x)) (line-of (l .y)) (line-of (l .z))
-            (x ∙ ap (line-at (route-path r) X) e) (y ∙ ap (line-at (route-path r) Y) e) (z ∙ ap (line-at (route-path r) Z) e) j,
-          (n ∙ ap (λ (k : ℕ). first-past k (route-path r .breaks)) e ∙ sym (first-break (plan-of (r .plan) .legs) (r .plan .end) t pt (route-right r .legs))) j)
+    λ j. (
+      xyz-≡ (leg (route-path r) t) (line-of (l .x)) (line-of (l .y)) (line-of (l .z))
+          (x ∙ ap (line-at (route-path r) X) e) (y ∙ ap (line-at (route-path r) Y) e) (z ∙ ap (line-at (route-path r) Z) e) j,
+      (n ∙ ap (λ (k : ℕ). first-past k (route-path r .breaks)) e ∙ sym (first-break (plan-of (r .plan) .legs) (r .plan .end) t pt (route-right r .legs))) j,
+    )
 
 pub standing-asked : (t : Fraction) → answer-of (record { x = (pos 0, pos 0); y = (pos 0, pos 0); z = (pos 0, pos 0); next = None }) ≡ leg-asked standing t
 standing-asked t =

@@ -31,7 +31,7 @@ module _ (p : Path) (a : Axis) where
   line-next : (i : ℕ) → speed-at p a (suc i) ≡ speed-at p a i → line-at p a (suc i) ≡ line-at p a i
   line-next i e =
       line-≡ (line-at p a (suc i)) (line-at p a i)
-          (next-base (p .place a i) (p .place a (suc i)) (p .place a (suc (suc i))) (speed-at p a i) (speed-at p a (suc i)) i refl refl e) e
+      (next-base (p .place a i) (p .place a (suc i)) (p .place a (suc (suc i))) (speed-at p a i) (speed-at p a (suc i)) i refl refl e) e
 
   line-same : (b e : ℕ) → Straight p a b e → (k : ℕ) → b + k < e → line-at p a (b + k) ≡ line-at p a b
   line-same b e s zero h = ap (line-at p a) (omega arith)
@@ -66,6 +66,7 @@ module _ (p : Path) (a : Axis) where
     where
       w-ge : b ≤ whole t
       w-ge = le-div-iff-mul-le pt .1 h
+
       go : Dec (whole t < e) → position p a t ≡ value (line-at p a b) t
       go (yes x) =
           let f : whole t ≡ b + (whole t - b) = omega (arith, w-ge) in
@@ -80,8 +81,8 @@ module _ (p : Path) (a : Axis) where
           last-line n =
               let f : e ≡ suc (b + (e - suc b)) = omega arith in
               ap (λ (i : ℕ). p .place a i *ℤ pos (t .den)) f
-                ∙ sym (line-end (b + (e - suc b)) t (n ∙ ap (λ (i : ℕ). i * t .den) f))
-                ∙ ap (λ (l : Line). value l t) (line-same p a b e s (e - suc b) (omega arith))
+              ∙ sym (line-end (b + (e - suc b)) t (n ∙ ap (λ (i : ℕ). i * t .den) f))
+              ∙ ap (λ (l : Line). value l t) (line-same p a b e s (e - suc b) (omega arith))
 
 -- tick k comes after s exactly if it is above the whole part of s
 pub after-whole : (s : Fraction) (k : ℕ) → Proper s → Before s (tick k) → whole s < k
@@ -103,10 +104,13 @@ line-holds p turns s t ps pt st np a = by (first-after s (p .breaks)) (first-aft
   where
     low : whole s * s .den ≤ s .num
     low = le-div-iff-mul-le ps .0 (omega arith)
+
     from : whole s * t .den ≤ t .num
     from = le-of-mul-le-mul-right {k = s .den} (omega (arith, st, mul-le-mul-right (t .den) low)) ps
+
     straight : (e : ℕ) → ((i : ℕ) → suc i ∈ p .breaks → whole s ≤ i → suc i < e → ⊥) → Straight p a (whole s) e
     straight e f i h k = turns a i (λ m. f i m h k)
+
     by : (o : Option ℕ) → LeastAfter s (p .breaks) o → NotPast t o → value (leg p s a) t ≡ position p a t
     by None l n = sym (place-straight p a (whole s) (suc (suc (whole t))) t
         (straight (suc (suc (whole t))) (λ i m h k. l (suc i) m (whole-after s (suc i) ps (omega arith))))
@@ -114,6 +118,7 @@ line-holds p turns s t ps pt st np a = by (first-after s (p .breaks)) (first-aft
       where
         mono : whole s ≤ whole t
         mono = le-div-iff-mul-le pt .1 from
+
         past : t .num < suc (whole t) * t .den
         past = omega (arith, whole-after t (suc (whole t)) pt (omega arith))
     by (Some k) l n = sym (place-straight p a (whole s) k t

@@ -46,4 +46,5 @@ pushed l p = record {
   start = p .start;
   count = min (suc (p .count)) 255;
   legs = cond (ltb (p .count) 8) (p .legs ++ l ∷ []) (p .legs);
-  end = p .end }
+  end = p .end;
+}

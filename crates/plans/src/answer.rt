@@ -18,6 +18,11 @@ impl LegAnswer {
     pub fn unplanned() -> LegAnswer
         ensures { λ r. ⌜ ((t : Fraction) → answer-of r ≡ leg-asked standing t) ⌝ }
     {
-        LegAnswer { x: (0, 0), y: (0, 0), z: (0, 0), next: None }
+        LegAnswer {
+            x: (0, 0),
+            y: (0, 0),
+            z: (0, 0),
+            next: None,
+        }
     }
 }

@@ -2,7 +2,6 @@
 ghost use mathlib.Core.Path.{_≡_};
 ghost use Rattle.plans.specs.Of.{place-of, speed-of};
 ghost use Rattle.plans.specs.Axes.{axis-of};
-
 use crate::plan::Position;
 use crate::plan::Speed;
 

@@ -1,6 +1,11 @@
+use plans::Leg;
+use plans::LegAnswer;
+use plans::Plan;
+use plans::Position;
+use plans::Route;
+use plans::Speed;
 use plans::answer::LegAnswerDebug;
 use plans::answer::LegAnswerPartialEq;
-use plans::{Leg, LegAnswer, Plan, Position, Route, Speed};
 use std::test::*;
 use times::Time;
 use times::refusal::RefusalDebug;
@@ -10,7 +15,10 @@ fn at(x: i32, y: i32, z: i32) -> Position {
 }
 
 fn leg(start: u16, x: i16, y: i16, z: i16) -> Leg {
-    Leg { start, speed: Speed { x, y, z } }
+    Leg {
+        start,
+        speed: Speed { x, y, z },
+    }
 }
 
 // a plan of one leg
@@ -44,7 +52,16 @@ fn starts_in_range() -> Result<(), Fail> {
     for p in [at(m, -m, m), at(-m, m, -m)] {
         check_eq(told(single(p, still, 1)), 0)?;
     }
-    for p in [at(m + 1, 0, 0), at(-m - 1, 0, 0), at(0, m + 1, 0), at(0, -m - 1, 0), at(0, 0, m + 1), at(0, 0, -m - 1), at(i32::MIN, 0, 0), at(0, 0, i32::MAX)] {
+    for p in [
+        at(m + 1, 0, 0),
+        at(-m - 1, 0, 0),
+        at(0, m + 1, 0),
+        at(0, -m - 1, 0),
+        at(0, 0, m + 1),
+        at(0, 0, -m - 1),
+        at(i32::MIN, 0, 0),
+        at(0, 0, i32::MAX),
+    ] {
         check_eq(told(single(p, still, 1)), 8)?;
     }
     Ok(())
@@ -55,7 +72,15 @@ fn speeds_in_range() -> Result<(), Fail> {
     for l in [leg(0, 1000, -1000, 1000), leg(0, -1000, 1000, -1000)] {
         check_eq(told(single(at(0, 0, 0), l, 1)), 0)?;
     }
-    for l in [leg(0, 1001, 0, 0), leg(0, -1001, 0, 0), leg(0, 0, 1001, 0), leg(0, 0, -1001, 0), leg(0, 0, 0, 1001), leg(0, 0, 0, -1001), leg(0, i16::MIN, 0, 0)] {
+    for l in [
+        leg(0, 1001, 0, 0),
+        leg(0, -1001, 0, 0),
+        leg(0, 0, 1001, 0),
+        leg(0, 0, -1001, 0),
+        leg(0, 0, 0, 1001),
+        leg(0, 0, 0, -1001),
+        leg(0, i16::MIN, 0, 0),
+    ] {
         check_eq(told(single(at(0, 0, 0), l, 1)), 8)?;
     }
     Ok(())
@@ -98,11 +123,43 @@ fn legs_at_times() -> Result<(), Fail> {
         return Err(Fail::new("a plan that keeps its rules"));
     };
     let y = (-7, 0);
-    let stands = LegAnswer { x: (100, 0), y, z: (0, 0), next: Some(5) };
-    let first = LegAnswer { x: (90, 2), y, z: (0, 0), next: Some(10) };
-    let second = LegAnswer { x: (140, -3), y, z: (-10000, 1000), next: Some(20) };
-    let ended = LegAnswer { x: (80, 0), y, z: (10000, 0), next: None };
-    for (n, d, answer) in [(0, 1, stands), (4, 1, stands), (79999, 16000, stands), (5, 1, first), (19, 2, first), (10, 1, second), (31, 3, second), (39, 2, second), (20, 1, ended), (41, 2, ended), (50000, 1, ended)] {
+    let stands = LegAnswer {
+        x: (100, 0),
+        y,
+        z: (0, 0),
+        next: Some(5),
+    };
+    let first = LegAnswer {
+        x: (90, 2),
+        y,
+        z: (0, 0),
+        next: Some(10),
+    };
+    let second = LegAnswer {
+        x: (140, -3),
+        y,
+        z: (-10000, 1000),
+        next: Some(20),
+    };
+    let ended = LegAnswer {
+        x: (80, 0),
+        y,
+        z: (10000, 0),
+        next: None,
+    };
+    for (n, d, answer) in [
+        (0, 1, stands),
+        (4, 1, stands),
+        (79999, 16000, stands),
+        (5, 1, first),
+        (19, 2, first),
+        (10, 1, second),
+        (31, 3, second),
+        (39, 2, second),
+        (20, 1, ended),
+        (41, 2, ended),
+        (50000, 1, ended),
+    ] {
         check_eq(route.leg(Time::new(n, d)?), answer)?;
     }
     Ok(())
@@ -114,8 +171,18 @@ fn far_ends() -> Result<(), Fail> {
     let Ok(route) = Route::new(plan) else {
         return Err(Fail::new("a plan that keeps its rules"));
     };
-    let runs = LegAnswer { x: (1000000, 1000), y: (-1000000, -1000), z: (0, 0), next: Some(50000) };
-    let ended = LegAnswer { x: (51000000, 0), y: (-51000000, 0), z: (0, 0), next: None };
+    let runs = LegAnswer {
+        x: (1000000, 1000),
+        y: (-1000000, -1000),
+        z: (0, 0),
+        next: Some(50000),
+    };
+    let ended = LegAnswer {
+        x: (51000000, 0),
+        y: (-51000000, 0),
+        z: (0, 0),
+        next: None,
+    };
     check_eq(route.leg(Time::zero()), runs)?;
     check_eq(route.leg(Time::new(799999999, 16000)?), runs)?;
     check_eq(route.leg(Time::new(50000, 1)?), ended)?;
@@ -124,5 +191,13 @@ fn far_ends() -> Result<(), Fail> {
         return Err(Fail::new("a plan that keeps its rules"));
     };
     check_eq(route.leg(Time::new(49999, 1)?).x, (-49999000, 1000))?;
-    check_eq(LegAnswer::unplanned(), LegAnswer { x: (0, 0), y: (0, 0), z: (0, 0), next: None })
+    check_eq(
+        LegAnswer::unplanned(),
+        LegAnswer {
+            x: (0, 0),
+            y: (0, 0),
+            z: (0, 0),
+            next: None,
+        },
+    )
 }

@@ -1,7 +1,7 @@
 -- The first answer: the scan finds the least moment, and that is unique.
-use mathlib.Core.Path.{_≡_, refl, sym, ap, _∙_, subst}
+use mathlib.Core.Path.{_≡_, refl, sym, ap, subst}
 use mathlib.Core.Bool.{Bool, true, false, cond}
-use mathlib.Core.Logic.{_⊎_, inl, inr, ⊎-elim}
+use mathlib.Core.Logic.{⊎-elim}
 use Prim.Native.Nat.{ℕ, zero, suc, _≤_, _<_, _+_}
 use native.Mathlib.Omega.{arith}
 use Rattle.std.proofs.shelf.Tests.{cases-lt, cases-bool, both-ways}
@@ -9,10 +9,10 @@ use Rattle.std.specs.Orderings.{Decides}
 use Rattle.std.specs.declared.option.Option.{Option}
 use Rattle.std.specs.declared.option.Option.the-variants.{Some, None}
 use Rattle.rules.specs.Fractions.{Proper}
-use Rattle.rules.specs.Stamps.{Stamp, Earlier, NotEarlier, is-earlier}
-use Rattle.rules.specs.Slots.{Queue, First, LeastSlot, first-below, sooner}
+use Rattle.rules.specs.Stamps.{Stamp, NotEarlier, is-earlier}
+use Rattle.rules.specs.Slots.{Queue, First, first-below, sooner}
 use Rattle.rules.proofs.Ordering.{tests-right}
-use Rattle.rules.proofs.Stamped.{asym, earlier-trans, not-earlier-trans}
+use Rattle.rules.proofs.Stamped.{asym, not-earlier-trans}
 use Rattle.queues.specs.Meanings.{soonest, is-nothing}
 use Rattle.queues.specs.Laws.{Held, Soonest-first, Firsts-right, Empty-right}
 
@@ -56,10 +56,11 @@ module _ (q : Queue) (held : Held q) (n : ℕ) where
   skip : (b : Option (ℕ × Stamp)) → Best q n b → q n ≡ None → Best q (suc n) b
   skip None h e = below-or _ n h e
   skip (Some p) h e = record {
-      inside = omega (arith, h .inside);
-      here = h .here;
-      least = λ j k l. below-or (λ j. q j ≡ Some k → is-earlier k (p .1) ≡ false) n (λ i u. h .least i k u) (λ f. some-none _ _ e f) j l;
-      lowest = λ j k l. below-or (λ j. q j ≡ Some k → is-earlier (p .1) k ≡ false → p .0 ≤ j) n (λ i u. h .lowest i k u) (λ f. some-none _ _ e f) j l }
+    inside = omega (arith, h .inside);
+    here = h .here;
+    least = λ j k l. below-or (λ j. q j ≡ Some k → is-earlier k (p .1) ≡ false) n (λ i u. h .least i k u) (λ f. some-none _ _ e f) j l;
+    lowest = λ j k l. below-or (λ j. q j ≡ Some k → is-earlier (p .1) k ≡ false → p .0 ≤ j) n (λ i u. h .lowest i k u) (λ f. some-none _ _ e f) j l;
+  }
 
   irreflexive : (m : Stamp) → is-earlier m m ≡ false
   irreflexive m = not-earlier-test m m (λ e. asym m m e e)
@@ -69,31 +70,34 @@ module _ (q : Queue) (held : Held q) (n : ℕ) where
 
   start : (m : Stamp) → Best q n None → q n ≡ Some m → Best q (suc n) (Some (n, m))
   start m h e = record {
-      inside = omega arith;
-      here = e;
-      least = λ j k l. below-or (λ j. q j ≡ Some k → is-earlier k m ≡ false) n (λ i u f. some-none _ _ (h i u) f) (λ f. same-not-earlier m k (some-some _ _ _ e f)) j l;
-      lowest = λ j k l. below-or (λ j. q j ≡ Some k → is-earlier m k ≡ false → n ≤ j) n (λ i u f. some-none _ _ (h i u) f) (λ f g. omega arith) j l }
+    inside = omega arith;
+    here = e;
+    least = λ j k l. below-or (λ j. q j ≡ Some k → is-earlier k m ≡ false) n (λ i u f. some-none _ _ (h i u) f) (λ f. same-not-earlier m k (some-some _ _ _ e f)) j l;
+    lowest = λ j k l. below-or (λ j. q j ≡ Some k → is-earlier m k ≡ false → n ≤ j) n (λ i u f. some-none _ _ (h i u) f) (λ f g. omega arith) j l;
+  }
 
   better : (p : ℕ × Stamp) (m : Stamp) → Low q n (p .0) (p .1) → q n ≡ Some m → is-earlier m (p .1) ≡ true → Best q (suc n) (Some (n, m))
   better p m h e t = record {
-      inside = omega arith;
-      here = e;
-      least = λ j k l. below-or (λ j. q j ≡ Some k → is-earlier k m ≡ false) n
-                  (λ i u f. not-earlier-chain m (p .1) k (pr n m e) (pr (p .0) (p .1) (h .here)) (pr i k f) (earlier-apart m (p .1) t) (h .least i k u f))
-                  (λ f. same-not-earlier m k (some-some _ _ _ e f)) j l;
-      lowest = λ j k l. below-or (λ j. q j ≡ Some k → is-earlier m k ≡ false → n ≤ j) n
-                  (λ i u f g. absurd (both-ways (is-earlier m (p .1)) (not-earlier-chain (p .1) k m (pr (p .0) (p .1) (h .here)) (pr i k f) (pr n m e) (h .least i k u f) g) t))
-                  (λ f g. omega arith) j l }
+    inside = omega arith;
+    here = e;
+    least = λ j k l. below-or (λ j. q j ≡ Some k → is-earlier k m ≡ false) n
+        (λ i u f. not-earlier-chain m (p .1) k (pr n m e) (pr (p .0) (p .1) (h .here)) (pr i k f) (earlier-apart m (p .1) t) (h .least i k u f))
+        (λ f. same-not-earlier m k (some-some _ _ _ e f)) j l;
+    lowest = λ j k l. below-or (λ j. q j ≡ Some k → is-earlier m k ≡ false → n ≤ j) n
+        (λ i u f g. absurd (both-ways (is-earlier m (p .1)) (not-earlier-chain (p .1) k m (pr (p .0) (p .1) (h .here)) (pr i k f) (pr n m e) (h .least i k u f) g) t))
+        (λ f g. omega arith) j l;
+  }
     where
       pr : (k : ℕ) (x : Stamp) → q k ≡ Some x → Proper (x .time)
       pr = held .proper
 
   worse : (p : ℕ × Stamp) (m : Stamp) → Low q n (p .0) (p .1) → q n ≡ Some m → is-earlier m (p .1) ≡ false → Best q (suc n) (Some p)
   worse p m h e t = record {
-      inside = omega (arith, h .inside);
-      here = h .here;
-      least = λ j k l. below-or (λ j. q j ≡ Some k → is-earlier k (p .1) ≡ false) n (λ i u. h .least i k u) (λ f. subst (λ (x : Stamp). is-earlier x (p .1) ≡ false) (some-some _ _ _ e f) t) j l;
-      lowest = λ j k l. below-or (λ j. q j ≡ Some k → is-earlier (p .1) k ≡ false → p .0 ≤ j) n (λ i u. h .lowest i k u) (λ f g. omega (arith, h .inside)) j l }
+    inside = omega (arith, h .inside);
+    here = h .here;
+    least = λ j k l. below-or (λ j. q j ≡ Some k → is-earlier k (p .1) ≡ false) n (λ i u. h .least i k u) (λ f. subst (λ (x : Stamp). is-earlier x (p .1) ≡ false) (some-some _ _ _ e f) t) j l;
+    lowest = λ j k l. below-or (λ j. q j ≡ Some k → is-earlier (p .1) k ≡ false → p .0 ≤ j) n (λ i u. h .lowest i k u) (λ f g. omega (arith, h .inside)) j l;
+  }
 
   more : (b : Option (ℕ × Stamp)) (o : Option Stamp) → q n ≡ o → Best q n b → Best q (suc n) (sooner b n o)
   more b None e h = skip b h e
@@ -111,9 +115,10 @@ best-below q held (suc n) = more q held n (first-below n q) (q n) refl (best-bel
 whole : (q : Queue) → Held q → (b : Option (ℕ × Stamp)) → Best q 12352 b → First q b
 whole q held None h = λ k. ⊎-elim (h k) (held .within k) (cases-lt k 12352)
 whole q held (Some p) h = record {
-    here = h .here;
-    least = λ k m e. ⊎-elim (λ l. h .least k m l e) (λ l. some-none _ _ (held .within k l) e) (cases-lt k 12352);
-    lowest = λ k m e. ⊎-elim (λ l. h .lowest k m l e) (λ l. some-none _ _ (held .within k l) e) (cases-lt k 12352) }
+  here = h .here;
+  least = λ k m e. ⊎-elim (λ l. h .least k m l e) (λ l. some-none _ _ (held .within k l) e) (cases-lt k 12352);
+  lowest = λ k m e. ⊎-elim (λ l. h .lowest k m l e) (λ l. some-none _ _ (held .within k l) e) (cases-lt k 12352);
+}
 
 -- the computed answer is the least moment's
 pub first-right : (q : Queue) → Held q → First q (soonest q)

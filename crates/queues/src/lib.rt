@@ -8,7 +8,6 @@ ghost use Rattle.rules.specs.Stamps.{Stamp};
 ghost use Rattle.times.specs.Of.{moment-of};
 ghost use Rattle.queues.specs.Meanings.{changed, answered, stored, asked-told, first-told, soonest, is-nothing};
 ghost use Rattle.queues.specs.Laws.{Soonest-first, Firsts-right, Empty-right};
-
 use times::Moment;
 use times::Refusal;
 

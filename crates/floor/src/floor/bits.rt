@@ -9,8 +9,8 @@ ghost use Rattle.floor_laws.specs.Writing.{Wrote, Fits, other, if-other, withdr
 ghost use Rattle.floor.specs.Of.{hall-of};
 
 use crate::floor::Floor;
-use crate::leaves::Taken;
-use crate::leaves::slot_of;
+use slots::Taken;
+use slots::slot_of;
 use books::FlightBook;
 use geometry::Axis;
 use geometry::Span;

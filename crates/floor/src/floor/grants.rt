@@ -4,12 +4,12 @@ ghost use Prim.Native.Nat.{_<_};
 ghost use Rattle.queues.specs.Meanings.{stored};
 ghost use Rattle.model.specs.Moves.{grant, take-away};
 ghost use Rattle.floor_laws.specs.Writing.{Wrote, Fits};
-ghost use Rattle.floor.specs.Lines.{line-of};
+ghost use Rattle.slots.specs.Lines.{line-of};
 ghost use Rattle.floor.specs.Of.{hall-of};
 
 use crate::floor::Floor;
-use crate::leaves::Taken;
-use crate::leaves::granted_line;
+use slots::Taken;
+use slots::granted_line;
 use books::FlightBook;
 use queues::EventQueue;
 use queues::keep;

@@ -12,12 +12,12 @@ ghost use Rattle.floor_laws.specs.Reading.{enters, drops, renews, reading};
 ghost use Rattle.floor.specs.Of.{hall-of};
 
 use crate::floor::Floor;
-use crate::leaves::Taken;
-use crate::leaves::axis_at;
-use crate::leaves::break_moment;
-use crate::leaves::higher_at;
-use crate::leaves::leg_slot_of;
-use crate::leaves::lower_at;
+use slots::Taken;
+use slots::axis_at;
+use slots::break_moment;
+use slots::higher_at;
+use slots::leg_slot_of;
+use slots::lower_at;
 use books::FlightBook;
 use geometry::Axis;
 use geometry::HalfSizes;

@@ -6,18 +6,21 @@ ghost use Rattle.rules.specs.Slots.{slot};
 ghost use Rattle.geometry.specs.Of.{axis-of};
 ghost use Rattle.times.specs.Of.{time-of};
 ghost use Rattle.queues.specs.Meanings.{first-told};
+ghost use Rattle.books.specs.Told.{leg-told, leg-answer, follow-told, follow-answer};
 ghost use Rattle.tables.specs.Tables.{empty};
 ghost use Rattle.model.specs.Halls.{in-hall, together, left, certificate-in, next-due};
 ghost use Rattle.floor.specs.Of.{joined, hall-of, certificate-told};
 
 use crate::floor::Floor;
-use crate::leaves::not_after;
-use crate::leaves::slot_of;
+use slots::not_after;
+use slots::slot_of;
 use books::FlightBook;
 use geometry::Axis;
+use plans::LegAnswer;
 use queues::EventQueue;
 use tables::Tables;
 use times::Moment;
+use times::Refusal;
 use times::Time;
 
 impl<B: FlightBook, Q: EventQueue> Floor<B, Q> {
@@ -90,5 +93,19 @@ impl<B: FlightBook, Q: EventQueue> Floor<B, Q> {
         ensures below { λ r. ⌜ BySome r (0 ≤ 0) (λ f. f .0 < 12352) ⌝ }
     {
         not_after(goal, self.queue.first())
+    }
+
+    /// The leg of a craft's path at a time, and the path's first break after it, as the book tells them.
+    pub fn leg(&self, c: u8, t: Time) -> Result<LegAnswer, Refusal>
+        ensures { λ r. ⌜ leg-told r ≡ leg-answer (hall-of meaning holds (now (self .entry)) .book) c (time-of t) ⌝ }
+    {
+        self.book.leg(c, t)
+    }
+
+    /// Whether a craft follows a leader, as the book tells it.
+    pub fn follows(&self, c: u8, leader: u8) -> Result<bool, Refusal>
+        ensures { λ r. ⌜ follow-told r ≡ follow-answer (hall-of meaning holds (now (self .entry)) .book) c leader ⌝ }
+    {
+        self.book.follows(c, leader)
     }
 }

@@ -1,13 +1,8 @@
 //! The queue's calls.
 ghost use mathlib.Core.Path.{_≡_};
-ghost use Prim.Native.Nat.{ℕ, _≤_};
-ghost use Rattle.std.specs.declared.option.Option.{Option};
-ghost use Rattle.std.specs.declared.option.Option.the-variants.{Some, None};
-ghost use Rattle.rules.specs.Stamps.{Stamp};
-ghost use Rattle.heap_queue.specs.Orders.{stamp-at};
-ghost use Rattle.heap_queue.specs.Heaps.{held};
+ghost use Prim.Native.Nat.{ℕ};
+ghost use Rattle.std.specs.declared.option.Option.the-variants.{None};
 ghost use Rattle.heap_queue.specs.Queues.{holds-of};
-
 use crate::queue::HeapQueue;
 use crate::tree::NOWHERE;
 use crate::tree::Tree;
@@ -22,7 +17,10 @@ impl HeapQueue {
     pub fn new() -> HeapQueue
         ensures { λ r. ⌜ ((k : ℕ) → holds-of r k ≡ None) ⌝ }
     {
-        HeapQueue { tree: Tree::new(), moments: [Moment::at(Time::zero()); SLOTS] }
+        HeapQueue {
+            tree: Tree::new(),
+            moments: [Moment::at(Time::zero()); SLOTS],
+        }
     }
 }
 

@@ -1,11 +1,10 @@
 //! Filling a gap in the heap: slots move down or up until the slot in hand fits.
 ghost use mathlib.Core.Bool.{false};
 ghost use mathlib.Core.Path.{_≡_};
-ghost use Prim.Native.Nat.{ℕ, _+_, _*_, _<_, _≤_};
+ghost use Prim.Native.Nat.{_+_, _*_, _<_};
 ghost use Rattle.std.specs.Options.{Cases as BySome};
 ghost use Rattle.heap_queue.specs.Orders.{stamp-at, comes-before};
 ghost use Rattle.heap_queue.specs.Heaps.{absent, Indexed, Ordered, IndexedBut, OrderedBut, Below, Above, ParentAfter, LeastChild, ChildBefore, Filled, SamePlaced, SamePlacedBut};
-
 use crate::order::before;
 use crate::tree::Tree;
 use queues::SLOTS;
@@ -30,7 +29,11 @@ impl Tree {
             return None;
         }
         let up = (gap - 1) / 2;
-        if before(moments, hand, self.heap[up as usize]) { Some(up) } else { None }
+        if before(moments, hand, self.heap[up as usize]) {
+            Some(up)
+        } else {
+            None
+        }
     }
 
     /// Of the gap's children, of which there is one, the place of that which does not come after the other.
@@ -43,7 +46,11 @@ impl Tree {
         if right >= self.len {
             return left;
         }
-        if before(moments, self.heap[right as usize], self.heap[left as usize]) { right } else { left }
+        if before(moments, self.heap[right as usize], self.heap[left as usize]) {
+            right
+        } else {
+            left
+        }
     }
 
     /// The place of the gap's least child, where it comes before the slot in hand.
@@ -55,7 +62,11 @@ impl Tree {
             return None;
         }
         let child = self.least_child(moments, gap, hand);
-        if before(moments, self.heap[child as usize], hand) { Some(child) } else { None }
+        if before(moments, self.heap[child as usize], hand) {
+            Some(child)
+        } else {
+            None
+        }
     }
 
     /// Moves parents down into the gap while they come after the slot in hand, and answers where the gap is then.

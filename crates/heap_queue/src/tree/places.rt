@@ -6,7 +6,6 @@ ghost use lib.ListN.{replicate};
 ghost use Rattle.std.specs.Options.{Cases as BySome};
 ghost use Rattle.heap_queue.specs.Orders.{stamp-at, comes-before};
 ghost use Rattle.heap_queue.specs.Heaps.{absent, Indexed, Ordered, IndexedBut, Opened, Whole, Vacant, SamePlaced, SamePlacedBut};
-
 use crate::tree::NOWHERE;
 use crate::tree::Tree;
 use queues::SLOTS;
@@ -18,7 +17,11 @@ impl Tree {
         ensures place { λ r. ⌜ r .place ≡ replicate 12352 65535 ⌝ }
         ensures len { λ r. ⌜ r .len ≡ 0 ⌝ }
     {
-        Tree { heap: [0; SLOTS], place: [NOWHERE; SLOTS], len: 0 }
+        Tree {
+            heap: [0; SLOTS],
+            place: [NOWHERE; SLOTS],
+            len: 0,
+        }
     }
 
     /// Opens a gap for a slot: at its place, or behind the last place where it has none.

@@ -5,7 +5,6 @@ ghost use lib.ListN.{getD, take, drop};
 ghost use Rattle.rules.specs.Paths.{on-every-axis};
 ghost use Rattle.rules.specs.Plans.{within, until, legs-right, plan-right};
 ghost use Rattle.plans.specs.Of.{place-of, speed-of, leg-of, legs-of, plan-of, blank, leg-right};
-
 use crate::plan::Plan;
 use crate::plan::Position;
 use crate::plan::Speed;
@@ -16,7 +15,11 @@ impl Plan {
     pub fn keeps_rules(&self) -> bool
         ensures { λ r. ⌜ r ≡ plan-right (plan-of (now (self .entry))) ⌝ }
     {
-        start_right(self.start) && self.count >= 1 && self.count <= 8 && self.legs_right() && self.end <= 50000
+        start_right(self.start)
+            && self.count >= 1
+            && self.count <= 8
+            && self.legs_right()
+            && self.end <= 50000
     }
 
     /// Whether the legs rise to the end tick, with speeds in range.
@@ -47,7 +50,11 @@ impl Plan {
         requires k { ⌜ k < now self .count ⌝ }
         ensures { λ r. ⌜ r ≡ until (legs-of (drop (k + 1) (take (now (self .entry) .count) (now (self .entry) .legs)))) (now (self .entry) .end) ⌝ }
     {
-        if k + 1 < self.count as usize { self.legs[k + 1].start } else { self.end }
+        if k + 1 < self.count as usize {
+            self.legs[k + 1].start
+        } else {
+            self.end
+        }
     }
 }
 

@@ -10,7 +10,6 @@ ghost use Rattle.plans.specs.Axes.{axis-of};
 ghost use Rattle.plans.specs.Of.{leg-of, legs-of, blank};
 ghost use Rattle.plans.specs.Lines.{line-of, plus, leg-line};
 ghost use Rattle.plans.specs.Routes.{route-path};
-
 use crate::axis::Axis;
 use crate::route::Route;
 

@@ -2,7 +2,6 @@
 ghost use mathlib.Core.Path.{_≡_};
 ghost use Rattle.plans.specs.Of.{plan-of};
 ghost use Rattle.plans.specs.Routes.{route-made, route-told};
-
 use crate::plan::Plan;
 use crate::route::Route;
 use times::Refusal;

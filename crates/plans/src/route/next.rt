@@ -4,7 +4,6 @@ ghost use Rattle.rules.specs.Paths.{first-after};
 ghost use Rattle.times.specs.Of.{time-of};
 ghost use Rattle.plans.specs.Lines.{first-past};
 ghost use Rattle.plans.specs.Routes.{route-path, answer-of, leg-asked};
-
 use crate::answer::LegAnswer;
 use crate::axis::Axis;
 use crate::route::Route;
@@ -17,7 +16,12 @@ impl Route {
         ensures { λ r. ⌜ answer-of r ≡ leg-asked (route-path (now (self .entry))) (time-of t) ⌝ }
     {
         let i = t.whole();
-        LegAnswer { x: self.line(Axis::X, i), y: self.line(Axis::Y, i), z: self.line(Axis::Z, i), next: self.next_break(i) }
+        LegAnswer {
+            x: self.line(Axis::X, i),
+            y: self.line(Axis::Y, i),
+            z: self.line(Axis::Z, i),
+            next: self.next_break(i),
+        }
     }
 
     /// The first break tick above tick i.
@@ -29,6 +33,10 @@ impl Route {
                 return Some(self.plan.legs[k].start);
             }
         }
-        if i < self.plan.end { Some(self.plan.end) } else { None }
+        if i < self.plan.end {
+            Some(self.plan.end)
+        } else {
+            None
+        }
     }
 }

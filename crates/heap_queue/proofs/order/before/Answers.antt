@@ -1,10 +1,9 @@
-use mathlib.Core.Path.{_≡_, _∙_}
-use Prim.Native.Nat.{ℕ, _<_}
+use mathlib.Core.Path.{_∙_}
+use Prim.Native.Nat.{_<_}
 use native.Mathlib.Omega.{arith}
 use lib.ListN.{length}
-use Rattle.heap_queue.specs.Orders.{stamp-at, ranks-before, comes-before}
+use Rattle.heap_queue.specs.Orders.{ranks-before, comes-before}
 use Rattle.heap_queue.proofs.Tables.{stamp-read}
-use Rattle.heap_queue.proofs.Gaps.{gap-closed}
 use Rattle.heap_queue.proofs.order.before.Needs as need
 
 pub returns : need.returns

@@ -1,6 +1,6 @@
 use native.Mathlib.Omega.{arith}
 use Rattle.std.specs.declared.option.Option.the-variants.{None}
-use Rattle.floor.specs.Lines.{line-of}
+use Rattle.slots.specs.Lines.{line-of}
 use Rattle.floor.proofs.Granting.{taking}
 use Rattle.floor.proofs.floor.Floor.take_away.Needs as need
 

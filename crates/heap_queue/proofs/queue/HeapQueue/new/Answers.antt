@@ -1,7 +1,7 @@
-use mathlib.Core.Path.{_≡_, refl, sym, ap, _∙_, subst}
-use Prim.Native.Nat.{ℕ, zero, suc, _≤_, _<_}
+use mathlib.Core.Path.{_≡_, refl, ap, _∙_}
+use Prim.Native.Nat.{ℕ, zero, suc}
 use native.Mathlib.Omega.{arith}
-use lib.ListN.{length, getD, replicate}
+use lib.ListN.{getD, replicate}
 use Rattle.std.proofs.shelf.Tests.{eq-eqb}
 use Rattle.heap_queue.specs.declared.tree.Tree.{Tree}
 use Rattle.heap_queue.specs.Orders.{stamp-at}
@@ -20,14 +20,25 @@ nowhere t e k = ap (λ l. getD l k 65535) e ∙ getD-same 12352 65535 k
 pub ghost-result : need.ghost-result
 ghost-result c =
     let t = c .new .result in
-    let e = c .new .ensures in
-    ( refl
-    , ( omega (arith, e .len)
-    , ( (λ i l. absurd (omega (arith, e .len)))
-    , ( (λ i l. absurd (omega (arith, e .len)))
-    , ( (λ k l h. absurd (h (nowhere t (e .place) k)))
-    , ( (λ k l h. absurd (h (nowhere t (e .place) k)))
-    , ( (λ k p l. absurd (omega (arith, e .len))) , tt ) ) ) ) ) ) )
+    let e = c .new .ensures in (
+      refl,
+      (
+        omega (arith, e .len),
+        (
+          (λ i l. absurd (omega (arith, e .len))),
+          (
+            (λ i l. absurd (omega (arith, e .len))),
+            (
+              (λ k l h. absurd (h (nowhere t (e .place) k))),
+              (
+                (λ k l h. absurd (h (nowhere t (e .place) k))),
+                ((λ k p l. absurd (omega (arith, e .len))), tt),
+              ),
+            ),
+          ),
+        ),
+      ),
+    )
 
 pub returns : need.returns
 returns c k = held-none (c .new .result) (stamp-at (replicate 12352 (c .at .result))) k (eq-eqb _ 65535 (nowhere (c .new .result) (c .new .ensures .place) k))

@@ -3,7 +3,7 @@ use mathlib.Core.Bool.{true}
 use Prim.Native.Nat.{ℕ, _+_, _-_, _<_}
 use native.Mathlib.Omega.{arith}
 use lib.Dec.{eqb}
-use lib.ListN.{length, getD, set, length-set}
+use lib.ListN.{getD, set, length-set}
 use lib.Seq.{getD-set-same, getD-set-other}
 use Rattle.std.proofs.shelf.Lists.{getD-default}
 use Rattle.std.proofs.shelf.Tests.{eq-eqb}
@@ -51,7 +51,7 @@ module _ (t : Tree) (slot : ℕ) (small : slot < 12352) (ix : Indexed t) (some :
     pub inner-out : (getD (t .place) slot 0 ≡ t .len - 1 → ⊥) → Vacant t u slot (getD (t .place) slot 0, slot-of t (t .len - 1))
     inner-out n = subst (λ (x : ℕ). Vacant t u slot (getD (t .place) slot 0, slot-of t x)) size
         (subst (λ (x : ℕ). Vacant t u slot (x, slot-of t (u .len))) read
-          (vacate-inner t slot small ix has u (λ i. ap (λ l. getD l i 0) heap) out rest less (λ q. n (sym read ∙ q ∙ size))))
+        (vacate-inner t slot small ix has u (λ i. ap (λ l. getD l i 0) heap) out rest less (λ q. n (sym read ∙ q ∙ size))))
 
 -- the tables once the slot is taken out
 abbrev taken : Tree → ℕ → Tree
@@ -65,15 +65,17 @@ returns-then-at-end c =
     let t = c .args .self .now in
     let slot = c .args .slot in
     record {
-        gone = absent-now t slot (c .pre .0) (c .pre .1) (c .if-at .left) (taken t slot) refl refl refl;
-        placed = same-others t slot (c .pre .0) (c .pre .1) (c .if-at .left) (taken t slot) refl refl refl;
-        left = last-out t slot (c .pre .0) (c .pre .1) (c .if-at .left) (taken t slot) refl refl refl (c .if-at-end .taken) }
+      gone = absent-now t slot (c .pre .0) (c .pre .1) (c .if-at .left) (taken t slot) refl refl refl;
+      placed = same-others t slot (c .pre .0) (c .pre .1) (c .if-at .left) (taken t slot) refl refl refl;
+      left = last-out t slot (c .pre .0) (c .pre .1) (c .if-at .left) (taken t slot) refl refl refl (c .if-at-end .taken);
+    }
 
 pub returns : need.returns
 returns c =
     let t = c .args .self .now in
     let slot = c .args .slot in
     record {
-        gone = absent-now t slot (c .pre .0) (c .pre .1) (c .if-at .left) (taken t slot) refl refl refl;
-        placed = same-others t slot (c .pre .0) (c .pre .1) (c .if-at .left) (taken t slot) refl refl refl;
-        left = inner-out t slot (c .pre .0) (c .pre .1) (c .if-at .left) _ refl refl refl (c .if-at-end .left) }
+      gone = absent-now t slot (c .pre .0) (c .pre .1) (c .if-at .left) (taken t slot) refl refl refl;
+      placed = same-others t slot (c .pre .0) (c .pre .1) (c .if-at .left) (taken t slot) refl refl refl;
+      left = inner-out t slot (c .pre .0) (c .pre .1) (c .if-at .left) _ refl refl refl (c .if-at-end .left);
+    }

@@ -1,11 +1,11 @@
 use mathlib.Core.Path.{_≡_, sym, _∙_, ap}
-use mathlib.Core.Bool.{false, true}
-use mathlib.Core.Logic.{_⊎_, ⊎-elim}
-use Prim.Native.Nat.{ℕ, _<_}
+use mathlib.Core.Bool.{false}
+use mathlib.Core.Logic.{⊎-elim}
+use Prim.Native.Nat.{ℕ}
 use Rattle.std.proofs.shelf.Tests.{cases-eq}
 use Rattle.heap_queue.specs.declared.tree.Tree.{Tree}
 use Rattle.heap_queue.specs.Orders.{stamp-at, comes-before}
-use Rattle.heap_queue.specs.Heaps.{absent, SamePlacedBut, Vacant}
+use Rattle.heap_queue.specs.Heaps.{absent, SamePlacedBut}
 use Rattle.heap_queue.proofs.Tables.{table-laws}
 use Rattle.heap_queue.proofs.tree.Tree.withdraw.Needs as need
 
@@ -32,7 +32,8 @@ returns-in-Some c =
     let e = c .in-Some .ensures tt in
     let s = c .settle .ensures in
     record {
-        index = s .index;
-        order = s .order;
-        gone = s .placed (c .args .slot) (λ q. e .left .apart (sym q)) ∙ e .gone;
-        placed = both t u v (c .args .slot) (c .in-Some .last) (e .left .last) (s .there) (e .placed) (s .placed) }
+      index = s .index;
+      order = s .order;
+      gone = s .placed (c .args .slot) (λ q. e .left .apart (sym q)) ∙ e .gone;
+      placed = both t u v (c .args .slot) (c .in-Some .last) (e .left .last) (s .there) (e .placed) (s .placed);
+    }

@@ -37,10 +37,11 @@ loop-k-again c =
     let s = small r (c .loop-k .k) (c .args .i) (axis-of (c .args .axis)) (c .part .result) (c .loop-k-test .taken) (c .part .ensures) in
     let e = c .add-line .ensures in
     let b : natAbs (plus (c .loop-k .line) (c .part .result) .0) ≤ 1000000 + 50000000 * (c .loop-k .k + 1) = omega (arith, sum-within (c .loop-k .line .0) (c .part .result .0) _ _ (c .loop-k .inv .1) (s .base)) in
-    let v : natAbs (plus (c .loop-k .line) (c .part .result) .1) ≤ 1000 * (c .loop-k .k + 1) = omega (arith, sum-within (c .loop-k .line .1) (c .part .result .1) _ _ (c .loop-k .inv .2) (s .slope)) in
-    (sum-step (r .plan .count) (r .plan .legs) (c .loop-k .k) (r .plan .end) (axis-of (c .args .axis)) (c .args .i) (c .loop-k .line) (c .part .result) (c .add-line .result) (route-right r .held) (c .loop-k-test .taken) (c .part .ensures) e ∙ c .loop-k .inv .0,
-     subst (λ (l : ℤ × ℤ). natAbs (l .0) ≤ 1000000 + 50000000 * (c .loop-k .k + 1)) (sym e) b,
-     subst (λ (l : ℤ × ℤ). natAbs (l .1) ≤ 1000 * (c .loop-k .k + 1)) (sym e) v)
+    let v : natAbs (plus (c .loop-k .line) (c .part .result) .1) ≤ 1000 * (c .loop-k .k + 1) = omega (arith, sum-within (c .loop-k .line .1) (c .part .result .1) _ _ (c .loop-k .inv .2) (s .slope)) in (
+      sum-step (r .plan .count) (r .plan .legs) (c .loop-k .k) (r .plan .end) (axis-of (c .args .axis)) (c .args .i) (c .loop-k .line) (c .part .result) (c .add-line .result) (route-right r .held) (c .loop-k-test .taken) (c .part .ensures) e ∙ c .loop-k .inv .0,
+      subst (λ (l : ℤ × ℤ). natAbs (l .0) ≤ 1000000 + 50000000 * (c .loop-k .k + 1)) (sym e) b,
+      subst (λ (l : ℤ × ℤ). natAbs (l .1) ≤ 1000 * (c .loop-k .k + 1)) (sym e) v,
+    )
 
 pub returns : need.returns
 returns c =

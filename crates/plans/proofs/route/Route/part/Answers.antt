@@ -19,6 +19,7 @@ part-of-requires c κs =
     let g = leg-right-at (p .count) (p .legs) (c .args .k) (p .end) (q .held) (c .pre) (q .legs) in
     let f : SFits w16 (c .speed .result) = record { sfits = c .speed .ok } in
     record {
-        speed = subst (λ (v : ℤ). natAbs v ≤ 1000) (sym (toZ-ofZ w16 (c .speed .result) f ∙ c .speed .ensures)) (g .0 .speeds (axis-of (c .args .axis)));
-        order = omega (arith, c .until .ensures, g .0 .order);
-        last = omega (arith, c .until .ensures, g .1, q .last) }
+      speed = subst (λ (v : ℤ). natAbs v ≤ 1000) (sym (toZ-ofZ w16 (c .speed .result) f ∙ c .speed .ensures)) (g .0 .speeds (axis-of (c .args .axis)));
+      order = omega (arith, c .until .ensures, g .0 .order);
+      last = omega (arith, c .until .ensures, g .1, q .last);
+    }

@@ -1,9 +1,8 @@
-use mathlib.Core.Path.{_≡_, ap, _∙_}
-use Prim.Native.Nat.{ℕ, _<_}
+use mathlib.Core.Path.{ap, _∙_}
+use Prim.Native.Nat.{_<_}
 use native.Mathlib.Omega.{arith}
 use lib.ListN.{length}
 use Rattle.std.specs.declared.option.Option.the-variants.{Some}
-use Rattle.heap_queue.specs.declared.queue.HeapQueue.{HeapQueue}
 use Rattle.heap_queue.specs.Heaps.{slot-of}
 use Rattle.heap_queue.proofs.Tables.{stamp-read}
 use Rattle.heap_queue.proofs.Holdings.{first-is, none-is}

@@ -1,13 +1,12 @@
-use mathlib.Core.Path.{_≡_, refl, sym, ap, _∙_}
-use Prim.Native.Nat.{ℕ, _<_}
+use mathlib.Core.Path.{_≡_, sym, ap, _∙_}
+use Prim.Native.Nat.{_<_}
 use native.Mathlib.Omega.{arith}
-use lib.Dec.{ltb}
 use lib.ListN.{length, getD}
 use Rattle.std.proofs.shelf.Lists.{getD-default}
-use Rattle.std.proofs.shelf.Tests.{ne-eqb, cond-false, le-ltb}
+use Rattle.std.proofs.shelf.Tests.{ne-eqb}
 use Rattle.std.specs.declared.option.Option.the-variants.{Some}
-use Rattle.std.specs.declared.result.Result.the-variants.{Ok, Err}
-use Rattle.times.specs.declared.refusal.Refusal.the-variants.{SlotRange}
+use Rattle.std.specs.declared.result.Result.the-variants.{Ok}
+use Rattle.queues.proofs.Changed.{answered-in}
 use Rattle.heap_queue.specs.Orders.{stamp-at}
 use Rattle.heap_queue.specs.Heaps.{place-of}
 use Rattle.heap_queue.specs.Queues.{holds-of}
@@ -26,4 +25,4 @@ returns c =
     let there = held-some (q .tree) (stamp-at (q .moments)) slot (ne-eqb (place-of (q .tree) slot) 65535 (λ p. c .if-self-slot .left (sym e ∙ p))) in
     ap (λ m. Ok (Some m)) (stamp-read (q .moments) slot (c .index-self-slot .result) long)
     ∙ ap Ok (sym there)
-    ∙ sym (cond-false (ltb 12351 slot) (Err SlotRange) (Ok (holds-of q slot)) (le-ltb 12351 slot (omega arith)))
+    ∙ answered-in slot (holds-of q slot) small

@@ -1,0 +1,4 @@
+pub mod Keywords
+pub mod Shapes
+pub mod Parsing
+pub mod Gates

@@ -1,0 +1,4 @@
+//! Hand-worked cases of overlap and first wrong moments.
+
+#[cfg(test)]
+mod tests;

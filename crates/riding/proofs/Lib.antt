@@ -1,0 +1,5 @@
+pub mod Layers
+pub mod Seating
+pub mod Legs
+pub mod Asked
+pub mod Lawful

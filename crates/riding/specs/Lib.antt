@@ -1,0 +1,4 @@
+pub mod Layer
+pub mod Seats
+pub mod Legs
+pub mod Laws

@@ -1,0 +1,13 @@
+pub mod Places
+pub mod Effects
+pub mod Moved
+pub mod Skies
+pub mod Firing
+pub mod Steps
+pub mod Changing
+pub mod Resting
+pub mod Ways
+pub mod History
+pub mod Touches
+pub mod Reporting
+pub mod Promises
