@@ -1,11 +1,11 @@
 //! What a firing tells of two craft.
 ghost use mathlib.Core.Path.{_≡_};
-ghost use Prim.Native.Nat.{_<_};
 ghost use Rattle.runs.specs.Encounters.{encounter-told, news-of, certificate-at};
-use floor::leaves::axis_at;
-use floor::leaves::higher_at;
-use floor::leaves::lower_at;
+
 use geometry::Axis;
+use slots::axis_at;
+use slots::higher_at;
+use slots::lower_at;
 
 /// What a slot's certificate is of.
 #[derive(Clone, Copy)]

@@ -12,10 +12,10 @@ use crate::encounters::certificate_at;
 use crate::encounters::decide;
 use books::FlightBook;
 use floor::Floor;
-use floor::leaves::higher_at;
-use floor::leaves::lower_at;
 use geometry::Axis;
 use queues::EventQueue;
+use slots::higher_at;
+use slots::lower_at;
 use times::Moment;
 use times::Time;
 
