@@ -26,6 +26,11 @@ fn paged(page: &[u8], bytes: &[u8]) -> Result<(), Fail> {
     }
 }
 
+/// Whether the list is this.
+fn reads(list: &[u16], entries: &[u16]) -> Result<(), Fail> {
+    check(list == entries)
+}
+
 /// Craft 1 flies through craft 0: they meet at 80/3 and part at 40.
 fn past<Q: EventQueue + Drop>(queue: Q) -> Result<(), Fail> {
     let mut slip = [7u32; 12224];
@@ -115,26 +120,35 @@ fn turn_over_a_calendar() -> Result<(), Fail> {
     turn(CalendarQueue::new())
 }
 
-// 2 rides on 1 and 1 on 0, each at a level of its own: all three fly as 0 does, and touch it or not as they stand
+// 2 rides on 1 and 1 on 0, each at a level of its own: all three stand and fly where 0 does, and pass 3
+fn formation(
+    slip: &mut [u32],
+    page: &mut [u8],
+    list: &mut [u16],
+    short: &mut [u16],
+) -> Result<(), Fail> {
+    let book = Riding::over(Riding::over(PlanBook::single_leg()));
+    let (mut hall, q) = opened(book, HeapQueue::new())?;
+    check_eq(number(hall.file(&q, 0, from_100(-3, 60), slip)), 0)?;
+    check_eq(number(hall.ride(&q, 1, 0, Some(0), slip)), 0)?;
+    check_eq(number(hall.ride(&q, 2, 1, Some(1), slip)), 0)?;
+    for craft in 0..4u8 {
+        check_eq(number(hall.enter(&q, craft, CUBE, slip)), 0)?;
+    }
+    check_eq(number(hall.list(&q, short)), 15)?;
+    reads(short, &[9, 9])?;
+    check_eq(number(hall.list(&q, list)), 0)?;
+    reads(list, &[1, 2, 66, 9])?;
+    let (q, ran) = on_to(&mut hall, q, 30, slip, page)?;
+    check_eq(ran.bytes, 33)?;
+    check_eq(number(hall.list(&q, list)), 15)
+}
+
 #[test]
 fn a_formation_on_two_layers() -> Result<(), Fail> {
     let mut slip = [0u32; 12224];
     let mut page = [0u8; 110];
     let mut list = [9u16; 4];
-    let book = Riding::over(Riding::over(PlanBook::single_leg()));
-    let (mut hall, q) = opened(book, HeapQueue::new())?;
-    check_eq(number(hall.file(&q, 0, from_100(-3, 60), &mut slip)), 0)?;
-    check_eq(number(hall.ride(&q, 1, 0, Some(0), &mut slip)), 0)?;
-    check_eq(number(hall.ride(&q, 2, 1, Some(1), &mut slip)), 0)?;
-    for craft in 0..4u8 {
-        check_eq(number(hall.enter(&q, craft, CUBE, &mut slip)), 0)?;
-    }
-    check_eq(number(hall.list(&q, &mut list[0..2])), 15)?;
-    check_eq(list[0], 9)?;
-    check_eq(number(hall.list(&q, &mut list)), 0)?;
-    check(list == [1, 2, 66, 9])?;
-    let (q, ran) = on_to(&mut hall, q, 30, &mut slip, &mut page)?;
-    check_eq(ran.bytes, 33)?;
-    check_eq(number(hall.list(&q, &mut list)), 15)?;
-    Ok(())
+    let mut short = [9u16; 2];
+    formation(&mut slip, &mut page, &mut list, &mut short)
 }
