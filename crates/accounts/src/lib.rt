@@ -1,4 +1,6 @@
 //! The accounts of the hall, over every list of calls; the lines and numbers that each move takes at most; and that runs end.
+#![tactic(auto)]
+
 ghost use Rattle.accounts.specs.Bounds.{ChangeWithin, EnterWithin, FireWithin, LeaveWithin};
 ghost use Rattle.accounts.specs.Laws.{AccountsHold, HistoriesAgree, RunsEnd};
 

@@ -1,4 +1,6 @@
 //! Flight books: the trait with its meaning and laws, and the books of plans.
+#![tactic(auto)]
+
 pub mod book;
 pub mod laws;
 pub mod plain;

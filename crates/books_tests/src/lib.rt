@@ -1,4 +1,5 @@
 //! Tests of flight books and of riding layers.
+#![tactic(auto)]
 
 #[cfg(test)]
 mod layers;

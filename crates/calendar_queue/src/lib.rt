@@ -1,4 +1,6 @@
 //! An event queue as a calendar: 128 buckets by the remainder of the whole tick.
+#![tactic(auto)]
+
 pub mod calendar;
 mod crown;
 mod entry;

@@ -1,4 +1,6 @@
 //! At a quiet clock every certificate fails when the paths say: of the machine, and of what the certificate question tells.
+#![tactic(auto)]
+
 ghost use Rattle.certified.specs.Histories.{CertificatesFromRest};
 ghost use Rattle.certified.specs.Rest.{CertificatesRest};
 

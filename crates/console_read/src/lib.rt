@@ -1,4 +1,6 @@
 //! The console's commands, read from a line.
+#![tactic(auto)]
+
 pub mod command;
 pub mod gate;
 mod keyword;

@@ -1,4 +1,5 @@
 //! Tests of the console's input.
+#![tactic(auto)]
 
 #[cfg(test)]
 mod tests {

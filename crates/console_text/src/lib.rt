@@ -1,4 +1,6 @@
 //! The console's input as text: lines, words, numbers and times as they may be written.
+#![tactic(auto)]
+
 pub mod lines;
 pub mod numbers;
 pub mod text;

@@ -1,4 +1,6 @@
 //! The console's answers, written to a text.
+#![tactic(auto)]
+
 ghost use Rattle.std.specs.Prelude.{◌≡◌, ◌++◌, string_bytes, codes, decimal, OnOk};
 ghost use Rattle.times.specs.Of.{time_of};
 ghost use Rattle.console_write.specs.Texts.{time_text, fraction_text};

@@ -1,4 +1,6 @@
 //! A machine of certificates: what it tells between two quiet clocks, and what its bits tell at one.
+#![tactic(auto)]
+
 ghost use Rattle.events.specs.Reports.{ReportsHold, BitsTell};
 ghost use Rattle.events.specs.Changes.{ChangesRest, EmptyRests};
 

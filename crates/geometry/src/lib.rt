@@ -1,4 +1,6 @@
 //! Boxes on their legs: whether two overlap at a moment, and when a bit about that is first wrong.
+#![tactic(auto)]
+
 pub mod axis;
 mod gap;
 pub mod overlap;

@@ -1,4 +1,6 @@
 //! Answers cases of overlap and first wrong moments that stand on its input, one to a line, by tools/geometry_cases.py.
+#![tactic(auto)]
+
 use geometry::{Axis, HalfSizes, Span, first_wrong, overlaps};
 use std::io;
 use std::io::{BufRead, BufReader};

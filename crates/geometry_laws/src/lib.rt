@@ -1,4 +1,6 @@
 //! What holds of ends, overlap and first wrong moments, and of meetings and partings on paths.
+#![tactic(auto)]
+
 ghost use Rattle.geometry_laws.specs.Certificates.{CertificatesRight, CertificatesUsual, CertificatesOne, SidesTold, AllFlipOnce};
 ghost use Rattle.geometry_laws.specs.Quick.{QuickRight};
 ghost use Rattle.geometry_laws.specs.Turns.{AllTurnsTold, TouchesTold};

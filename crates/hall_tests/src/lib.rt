@@ -1,4 +1,5 @@
 //! Tests of the hall's calls.
+#![tactic(auto)]
 
 #[cfg(test)]
 mod desk;

@@ -1,5 +1,7 @@
 //! The hall as values (in specs/): its state, every call with what it is refused for, what it does and tells,
 //! histories of calls, and what the hall promises of them; with the laws that need no more than the definitions.
+#![tactic(auto)]
+
 ghost use Rattle.model.specs.Laws.{QuestionsAlterNothing, RefusalsAlterNothing};
 ghost use Rattle.model.specs.Show.{SmallShow};
 

@@ -1,4 +1,6 @@
 //! Prints a page in words: reads its bytes from standard input and writes a line for each record.
+#![tactic(auto)]
+
 use pages::{Kind, Reader};
 use std::io;
 use std::io::Read;

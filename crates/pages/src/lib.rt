@@ -1,4 +1,6 @@
 //! The page: what leaves the box. Reports are written as records, and read back.
+#![tactic(auto)]
+
 pub mod laws;
 pub mod read;
 pub mod report;

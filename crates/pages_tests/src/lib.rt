@@ -1,4 +1,5 @@
 //! Tests of the page.
+#![tactic(auto)]
 
 #[cfg(test)]
 mod tests {

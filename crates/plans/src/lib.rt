@@ -1,4 +1,6 @@
 //! Flight plans, the paths that they give, and the leg question on a plan.
+#![tactic(auto)]
+
 pub mod answer;
 mod axis;
 pub mod laws;

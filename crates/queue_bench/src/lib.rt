@@ -1,4 +1,6 @@
 //! Runs of the queues, to be timed from outside: each makes a queue, does one sequence of operations on it, and answers a number made of all that the queue told. A run that is done in the same way elsewhere must come to the same number.
+#![tactic(auto)]
+
 mod draw;
 mod mixed;
 mod show;

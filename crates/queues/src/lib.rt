@@ -1,4 +1,6 @@
 //! Event queues: what a queue means, which questions it answers, and what its first answer comes to.
+#![tactic(auto)]
+
 ghost use Rattle.std.specs.Prelude.{◌≡◌, ℕ, ◌≤◌, Some, None, Option};
 ghost use Rattle.rules.specs.Fractions.{Usual};
 ghost use Rattle.rules.specs.Stamps.{Stamp};

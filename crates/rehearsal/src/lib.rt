@@ -1,4 +1,6 @@
 //! The rehearsal console without its input and output: a script in, its answers out.
+#![tactic(auto)]
+
 pub mod cues;
 pub mod desk;
 pub mod filing;

@@ -1,4 +1,6 @@
 //! The rehearsal console: reads a script from standard input, and writes its answers to standard output.
+#![tactic(auto)]
+
 use rehearsal::rehearse;
 use std::io::{Read, Write};
 

@@ -1,4 +1,6 @@
 //! One level of riding over any flight book.
+#![tactic(auto)]
+
 pub mod laws;
 pub mod riding;
 mod seats;

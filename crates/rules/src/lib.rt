@@ -1,4 +1,6 @@
 //! The rules as definitions (in specs/), with the lemmas that every proof shares (in proofs/), and theorems about them.
+#![tactic(auto)]
+
 ghost use Rattle.rules.specs.Laws.{AllLeastTerms, TestsRight, TimesOrdered, StampsOrdered};
 
 /// Least terms are computed rightly, the tests of order decide it, and times and moments are totally ordered: over all fractions.

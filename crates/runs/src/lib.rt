@@ -1,4 +1,6 @@
 //! Steps and runs of a floor: what a firing tells of two craft, the steps that are due one after another, and the list of touching pairs.
+#![tactic(auto)]
+
 pub mod encounters;
 pub mod ended;
 pub mod listing;

@@ -1,4 +1,6 @@
 //! Slots, lines and due moments: the small expressions of the hall that carry meaning. They are public for the floor above, which keeps their arguments in range.
+#![tactic(auto)]
+
 ghost use Rattle.std.specs.Prelude.{◌≡◌, ◌+◌, ◌*◌, ◌<◌, ◌≤◌, MatchOption};
 ghost use Rattle.rules.specs.Slots.{slot, leg_slot};
 ghost use Rattle.geometry.specs.Of.{axis_of};

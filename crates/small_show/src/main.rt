@@ -1,4 +1,6 @@
 //! A small show through the hall's own calls, over each queue: craft 1 flies up to craft 0 and turns at tick 10, where the two boxes touch for an instant.
+#![tactic(auto)]
+
 use books::PlanBook;
 use books::book::FlightBook;
 use calendar_queue::CalendarQueue;

@@ -1,4 +1,6 @@
 //! Exact time: fractions of a tick in least terms, moments, and the numbers a refusal returns.
+#![tactic(auto)]
+
 pub mod laws;
 pub mod moment;
 pub mod refusal;

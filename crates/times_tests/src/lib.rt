@@ -1,4 +1,5 @@
 //! Tests of exact time: reduction, bounds, orders and the refusals' numbers.
+#![tactic(auto)]
 
 #[cfg(test)]
 mod tests;
