@@ -21,7 +21,7 @@ returns-then-b-lt48 c =
       | then-b-lt48-via-then-b-lt48 w ↦ and_left (leb 48 x) (leb x 57) (lt-leb 48 x w.if-b-lt48.true)
       | then-b-lt48-via-else-b-lt48+then-b-gt57 w ↦ and_right (leb 48 x) (leb x 57) (lt-leb x 57 w.if-b-gt57.true)
     ] in
-    sym (some_in c.args.most ds c.if-is-empty.ensures ∙ sym c.loop-b.invariant.1
+    sym (some_in c.args.most ds c.if-is_empty.ensures ∙ sym c.loop-b.invariant.1
     ∙ digit_none c.args.most c.loop-b.value ds c.loop-b.b-index c.loop-b-test.true no_digit)
 
 pub returns-then-value-from : goal.returns-then-value-from
@@ -32,7 +32,7 @@ returns-then-value-from c =
     let v = c.loop-b.value in
     let x = get_or ds i 0 in
     let large : m < v * 10 + (x - 48) = omega arith in
-    sym (some_in m ds c.if-is-empty.ensures ∙ sym c.loop-b.invariant.1
+    sym (some_in m ds c.if-is_empty.ensures ∙ sym c.loop-b.invariant.1
     ∙ digit_more m v ds i c.loop-b-test.true (digit x (omega arith) (omega arith))
     ∙ over m (v * 10 + (x - 48)) (drop (i + 1) ds) large)
 
@@ -54,6 +54,6 @@ returns c =
     let ds = c.args.text.now in
     let m = c.args.most in
     let v = c.loop-b.value in
-    sym (some_in m ds c.if-is-empty.ensures ∙ sym c.loop-b.invariant.1
+    sym (some_in m ds c.if-is_empty.ensures ∙ sym c.loop-b.invariant.1
     ∙ at_drop_all (λ (l : List ℕ). limited m (digits_from v l)) ds c.loop-b.b-index c.loop-b-test.false
     ∙ cond-true (leb v m) (Some v) None (le-leb v m c.loop-b.invariant.0))
