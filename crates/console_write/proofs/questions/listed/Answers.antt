@@ -8,12 +8,12 @@ pub returns-then-entries-eq0 : goal.returns-then-entries-eq0
 returns-then-entries-eq0 c =
     let b : List ℕ = string_bytes c.args.out.now in
     let es : List ℕ = c.args.entries.now in
-    c.in-ok-write.ensures.bytes
+    c.in_ok-write.ensures.bytes
     ∙ sym (cond-true (eqb (length es) 0) (b ++ codes "list: none\n") (b ++ codes "list:" ++ flat_map entry_text es ++ codes "\n") (eq-eqb (length es) 0 c.if-entries-eq0.true))
 
 pub returns : goal.returns
 returns c =
     let b : List ℕ = string_bytes c.args.out.now in
     let es : List ℕ = c.args.entries.now in
-    c.in-ok-some-listed.ensures
+    c.in_ok-some_listed.ensures
     ∙ sym (cond-false (eqb (length es) 0) (b ++ codes "list: none\n") (b ++ codes "list:" ++ flat_map entry_text es ++ codes "\n") (ne_eqb (length es) 0 c.if-entries-eq0.false))

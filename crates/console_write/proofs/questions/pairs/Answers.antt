@@ -9,7 +9,7 @@ loop-entry-preserved c =
     let before : List ℕ = string_bytes c.args.out.now in
     let es : List ℕ = c.args.entries.now in
     let i = c.loop-entry.entry-index in
-    c.in-ok-write.ensures.bytes
+    c.in_ok-write.ensures.bytes
     ∙ ap (λ (x : List ℕ). x ++ entry_text (get_or es i 0)) c.loop-entry.invariant
     ∙ flat_map_more entry_text before (take i es) (get_or es i 0)
     ∙ ap (λ (t : List ℕ). before ++ flat_map entry_text t) (sym (take_more es i 0 c.loop-entry-test.true))

@@ -8,7 +8,7 @@ loop-line-preserved c =
     let before : List ℕ = string_bytes c.write.new.self in
     let ls : List ℕ = c.args.slip.now in
     let i = c.loop-line.line-index in
-    c.in-ok-write-2.ensures.bytes
+    c.in_ok-write-2.ensures.bytes
     ∙ ap (λ (x : List ℕ). x ++ line_text (get_or ls i 0)) c.loop-line.invariant
     ∙ flat_map_more line_text before (take i ls) (get_or ls i 0)
     ∙ ap (λ (t : List ℕ). before ++ lines_text t) (sym (take_more ls i 0 c.loop-line-test.true))
@@ -19,4 +19,4 @@ returns c =
     let ls : List ℕ = c.args.slip.now in
     c.loop-line.invariant
     ∙ ap (λ (t : List ℕ). before ++ lines_text t) (take_all c.loop-line.line-index ls c.loop-line-test.false)
-    ∙ ap (λ (x : List ℕ). x ++ lines_text ls) c.in-ok-write.ensures.bytes
+    ∙ ap (λ (x : List ℕ). x ++ lines_text ls) c.in_ok-write.ensures.bytes

@@ -9,4 +9,4 @@ put_is xs ys at =
     ap (λ k. put_mid at k xs ys) e ∙ ap (λ l. take at xs ++ (ys ++ l)) (drop-drop 11 at xs)
 
 pub returns : goal.returns
-returns c = ap (put_mid c.args.at _ c.args.page.now) c.copy-from-slice.ensures.after ∙ put_is c.args.page.now c.args.bytes.now c.args.at
+returns c = ap (put_mid c.args.at _ c.args.page.now) c.copy_from_slice.ensures.after ∙ put_is c.args.page.now c.args.bytes.now c.args.at

@@ -17,5 +17,5 @@ record_is Parting a b n d t f N D L p q r s u v = let x : n / 1 ≡ n = omega ar
 pub returns : goal.returns
 returns c =
     let r = c.args.report in
-    record_is r.kind r.lower r.higher _ _ _ (time_of r.time) _ _ _ c.tag.ensures c.to-be-bytes-length.ensures
-    c.to-be-bytes-n.ensures c.to-be-bytes-d.ensures c.numerator.ensures c.denominator.ensures
+    record_is r.kind r.lower r.higher _ _ _ (time_of r.time) _ _ _ c.tag.ensures c.to_be_bytes-length.ensures
+    c.to_be_bytes-n.ensures c.to_be_bytes-d.ensures c.numerator.ensures c.denominator.ensures

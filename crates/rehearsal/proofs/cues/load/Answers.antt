@@ -6,7 +6,7 @@ pub loop-craft-init : goal.loop-craft-init
 loop-craft-init g c = loaded_none _ _
 
 pub loop-craft-preserved : goal.loop-craft-preserved
-loop-craft-preserved g c = loaded_more _ _ _ _ _ _ _ _ c.loop-craft.invariant c.zero.ensures c.slot-of.ensures c.next-cue.ensures c.keep.ensures.meaning
+loop-craft-preserved g c = loaded_more _ _ _ _ _ _ _ _ c.loop-craft.invariant c.zero.ensures c.slot_of.ensures c.next_cue.ensures c.keep.ensures.meaning
 
 pub returns : goal.returns
 returns g c = loaded_all _ _ _ _ c.loop-craft.invariant (omega arith)

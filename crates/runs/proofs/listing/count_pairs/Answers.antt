@@ -8,7 +8,7 @@ pub loop-c-preserved : goal.loop-c-preserved
 loop-c-preserved g c =
     let m : Hall = hall_of g.B.FlightBook.meaning g.Q.EventQueue.holds c.args.floor.now in
     let i = c.loop-c.invariant.1 in (
-      (λ t. c.loop-c.invariant.0 t + c.count-row-n.ensures.value t) ∙ sym (rows_longer m c.loop-c.c),
+      (λ t. c.loop-c.invariant.0 t + c.count_row-n.ensures.value t) ∙ sym (rows_longer m c.loop-c.c),
       omega arith,
     )
 

@@ -6,8 +6,8 @@ use Rattle.runs.proofs.Rows.{row_short, row_miss, long_hit, all_below}
 use Rattle.runs.proofs.listing.count_row.Goals as goal
 use Rattle.runs.proofs.listing.count_row.Goals.{then-is-listed, else-is-listed}
 
-pub overflow-add-n : goal.overflow-add-n
-overflow-add-n g c =
+pub overflow_add-n : goal.overflow_add-n
+overflow_add-n g c =
     let m : Hall = hall_of g.B.FlightBook.meaning g.Q.EventQueue.holds c.args.floor.now in
     let h = row_short m c.args.c c.loop-d.d in
     let i = c.loop-d.invariant in
@@ -16,9 +16,9 @@ overflow-add-n g c =
 pub loop-d-preserved : goal.loop-d-preserved
 loop-d-preserved g c =
     let m : Hall = hall_of g.B.FlightBook.meaning g.Q.EventQueue.holds c.args.floor.now in
-    elim c.if-is-listed.branch [
-      | then-is-listed w ↦ w.n-is ∙ ap (λ (x : ℕ). x + 1) c.loop-d.invariant ∙ sym (long_hit m c.args.c c.loop-d.d (sym c.is-listed.ensures ∙ w.if-is-listed.true))
-      | else-is-listed w ↦ w.n-is ∙ c.loop-d.invariant ∙ sym (ap length (row_miss m c.args.c c.loop-d.d (sym c.is-listed.ensures ∙ w.if-is-listed.false)))
+    elim c.if-is_listed.branch [
+      | then-is-listed w ↦ w.n-is ∙ ap (λ (x : ℕ). x + 1) c.loop-d.invariant ∙ sym (long_hit m c.args.c c.loop-d.d (sym c.is_listed.ensures ∙ w.if-is_listed.true))
+      | else-is-listed w ↦ w.n-is ∙ c.loop-d.invariant ∙ sym (ap length (row_miss m c.args.c c.loop-d.d (sym c.is_listed.ensures ∙ w.if-is_listed.false)))
     ]
 
 pub returns : goal.returns

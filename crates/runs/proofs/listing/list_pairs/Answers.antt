@@ -5,8 +5,8 @@ use Rattle.floor.specs.Of.{hall_of}
 use Rattle.runs.proofs.Rows.{rows_room, rows_put, rows_done}
 use Rattle.runs.proofs.listing.list_pairs.Goals as goal
 
-pub list-row-n-requires : goal.list-row-n-requires
-list-row-n-requires g c =
+pub list_row-n-requires : goal.list_row-n-requires
+list_row-n-requires g c =
     let m : Hall = hall_of g.B.FlightBook.meaning g.Q.EventQueue.holds c.args.floor.now in
     let h = rows_room m c.loop-c.c (omega arith) in
     let i = c.loop-c.invariant.0 in
@@ -16,7 +16,7 @@ pub loop-c-preserved : goal.loop-c-preserved
 loop-c-preserved g c =
     let m : Hall = hall_of g.B.FlightBook.meaning g.Q.EventQueue.holds c.args.floor.now in
     let fits : length (pairs m) ≤ length c.args.list.now = omega arith in
-    rows_put m c.loop-c.c c.loop-c.n _ c.loop-c.list c.args.list.now _ (omega arith) fits c.loop-c.invariant.0 c.loop-c.invariant.1 c.list-row-n.ensures.list c.list-row-n.ensures.count
+    rows_put m c.loop-c.c c.loop-c.n _ c.loop-c.list c.args.list.now _ (omega arith) fits c.loop-c.invariant.0 c.loop-c.invariant.1 c.list_row-n.ensures.list c.list_row-n.ensures.count
 
 pub returns : goal.returns
 returns g c =

@@ -40,5 +40,5 @@ steps-preserved g c =
     going_more (time_of c.args.goal) _ m _ c.steps.slip _ c.steps.page c.steps.steps c.steps.lines c.steps.bytes c.steps.invariant (c.in-Ok.due.0, k)
     (next_at (time_of c.args.goal) _ _ _ _ c.steps.lines c.steps.bytes m c.steps.auto.slip c.steps.auto.page (c.in-Ok.due.0, k) c.in-Ok.ensures)
     _ _ _ _ _ c.step-done.ensures.wrote
-    (c.write-news-bytes.ensures.used ∙ ap (λ (r : List ℕ). c.steps.bytes + length r) same)
-    (c.write-news-bytes.ensures.page ∙ ap (λ (r : List ℕ). written c.steps.bytes r c.steps.page) same)
+    (c.write_news-bytes.ensures.used ∙ ap (λ (r : List ℕ). c.steps.bytes + length r) same)
+    (c.write_news-bytes.ensures.page ∙ ap (λ (r : List ℕ). written c.steps.bytes r c.steps.page) same)

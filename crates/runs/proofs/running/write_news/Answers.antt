@@ -7,9 +7,9 @@ use Rattle.runs.specs.Encounters.{encounter_told}
 use Rattle.runs.specs.Running.{reported}
 use Rattle.runs.proofs.running.write_news.Goals as goal
 
-pub returns-in-default : goal.returns-in-default
-returns-in-default c =
-    let e : [] ≡ records (time_of c.args.time) (encounter_told c.args.news) = sym (ap reported c.in-default.is) ∙ c.report.ensures in
+pub returns-in_default : goal.returns-in_default
+returns-in_default c =
+    let e : [] ≡ records (time_of c.args.time) (encounter_told c.args.news) = sym (ap reported c.in_default.is) ∙ c.report.ensures in
     record {
       used = sym (add-zero c.args.at) ∙ ap (λ (r : List ℕ). c.args.at + length r) e;
       page = sym (written_none c.args.at c.args.page.now) ∙ ap (λ (r : List ℕ). written c.args.at r c.args.page.now) e;

@@ -11,8 +11,8 @@ use Rattle.runs.proofs.stepping.foretell.Goals as goal
 pub returns : goal.returns
 returns g c =
     let m : Hall = hall_of g.B.FlightBook.meaning g.Q.EventQueue.holds c.args.floor.now in
-    let low = c.lower-at-c.ensures.value in
-    let high = c.higher-at-d.ensures.value in
+    let low = c.lower_at-c.ensures.value in
+    let high = c.higher_at-d.ensures.value in
     let x = c.bit.ensures ∙ (λ t. m.bit (slot X (low t) (high t))) in
     let y = c.bit-2.ensures ∙ (λ t. m.bit (slot Y (low t) (high t))) in
     let z = c.bit-3.ensures ∙ (λ t. m.bit (slot Z (low t) (high t))) in

@@ -8,11 +8,11 @@ use Rattle.books.specs.Plain.{plain_book}
 use Rattle.books.proofs.Rows.{refused_same, accepted_done, made_err, made_ok, file_8, file_9, file_done}
 use Rattle.books.proofs.plain.PlanBookFlightBook.file.Goals as goal
 
-pub returns-in-default : goal.returns-in-default
-returns-in-default c =
+pub returns-in_default : goal.returns-in_default
+returns-in_default c =
     let b = plain_book (routes_of c.args.self.now.routes) c.args.self.now.limit in
     let p = plan_of c.args.plan in
-    let e = file_8 c.args.craft p b c.if-craft-ge64.false (made_err p _ c.in-default.ensures) in
+    let e = file_8 c.args.craft p b c.if-craft-ge64.false (made_err p _ c.in_default.ensures) in
     record { refusal = sym e; after = refused_same (filing c.args.craft p) b 8 e; same = λ _. refl }
 
 pub returns-then-plan-self : goal.returns-then-plan-self

@@ -2,8 +2,8 @@ use Rattle.std.proofs.Common.{refl}
 use Rattle.calendar_queue.specs.Matches.{no_nodes, no_matches}
 use Rattle.calendar_queue.proofs.crown.Crown.new.Goals as goal
 
-pub invariant-of-result : goal.invariant-of-result
-invariant-of-result c = (refl, (∣ no_matches 256 ∣₁, tt))
+pub invariant_of-result : goal.invariant_of-result
+invariant_of-result c = (refl, (∣ no_matches 256 ∣₁, tt))
 
 pub returns : goal.returns
 returns c = λ k. no_nodes 256 k

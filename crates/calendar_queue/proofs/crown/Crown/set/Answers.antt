@@ -4,8 +4,8 @@ use Rattle.calendar_queue.specs.Crowns.{node}
 use Rattle.calendar_queue.specs.Matches.{matched_known, leaf_set, leaf_at}
 use Rattle.calendar_queue.proofs.crown.Crown.set.Goals as goal
 
-pub invariant-of-self : goal.invariant-of-self
-invariant-of-self c =
+pub invariant_of-self : goal.invariant_of-self
+invariant_of-self c =
     let s = c.args.self.now in (
       c.replay.auto.nodes ∙ length-set s.nodes _ _ ∙ s.sized,
       (∣ c.replay.ensures.matched (leaf_set s.nodes (128 + c.from-leaf.result) c.args.found (omega arith) (matched_known s.nodes s.matched)) ∣₁, tt),

@@ -6,22 +6,22 @@ use Rattle.calendar_queue.specs.Places.{begins, opens_start, stands_below}
 use Rattle.calendar_queue.specs.Walks.{bucket_below, linked_known, table_bounded, Step, step}
 use Rattle.calendar_queue.proofs.lists.Lists.seek.Goals as goal
 
-pub overflow-add-place : goal.overflow-add-place
-overflow-add-place c = let l = bucket_below c.args.wanted.moment in omega (arith, c.bucket-of-place.ensures ∙ bucket_is c.args.wanted.moment)
+pub overflow_add-place : goal.overflow_add-place
+overflow_add-place c = let l = bucket_below c.args.wanted.moment in omega (arith, c.bucket_of-place.ensures ∙ bucket_is c.args.wanted.moment)
 
 pub loop-wanted-init : goal.loop-wanted-init
 loop-wanted-init c =
     let t = table c.args.self.now.moments in (
-      subst (λ (k : ℕ). stands t (12352 + k) (bucket c.args.wanted.moment) ≡ true) (sym (c.bucket-of-place.ensures ∙ bucket_is c.args.wanted.moment)) (begins t (bucket c.args.wanted.moment)),
+      subst (λ (k : ℕ). stands t (12352 + k) (bucket c.args.wanted.moment) ≡ true) (sym (c.bucket_of-place.ensures ∙ bucket_is c.args.wanted.moment)) (begins t (bucket c.args.wanted.moment)),
       opens_start t _ _ _ (omega arith),
     )
 
-pub goes-on-requires : goal.goes-on-requires
-goes-on-requires c =
+pub goes_on-requires : goal.goes_on-requires
+goes_on-requires c =
     stands_below (table c.args.self.now.moments) c.loop-wanted.place (bucket c.args.wanted.moment) (bucket_below c.args.wanted.moment) c.loop-wanted.invariant.0
 
-pub offset-bounds-self-from : goal.offset-bounds-self-from
-offset-bounds-self-from c =
+pub offset_bounds-self-from : goal.offset_bounds-self-from
+offset_bounds-self-from c =
     let l : c.loop-wanted.place < 12480 = stands_below (table c.args.self.now.moments) c.loop-wanted.place (bucket c.args.wanted.moment) (bucket_below c.args.wanted.moment) c.loop-wanted.invariant.0 in
     omega arith
 

@@ -14,8 +14,8 @@ bounds-self-from-2 c =
     let l : c.seek-place.result < 12480 = stands_below (table c.args.self.now.moments) c.seek-place.result (bucket c.args.moment) (bucket_below c.args.moment) c.seek-place.ensures.stands in
     omega arith
 
-pub invariant-of-self : goal.invariant-of-self
-invariant-of-self c =
+pub invariant_of-self : goal.invariant_of-self
+invariant_of-self c =
     let s = c.args.self.now in
     let m = c.args.moment in
     let e = c.seek-place.ensures in

@@ -8,15 +8,15 @@ use Rattle.floor.proofs.floor.Floor.drop_bits.Goals as goal
 pub loop-d-init : goal.loop-d-init
 loop-d-init g c = at_start (drop_bit (axis_of c.args.axis) c.args.c) (drop_bit_grows (axis_of c.args.axis) c.args.c) (drop_bit_leaves (axis_of c.args.axis) c.args.c) c.args.c c.args.n _ _
 
-pub drop-other-end-requires : goal.drop-other-end-requires
-drop-other-end-requires g c = record {
+pub drop_other-end-requires : goal.drop_other-end-requires
+drop_other-end-requires g c = record {
   c = c.requires.c;
   d = c.loop-d-test.true;
   fits = at_room (drop_bit (axis_of c.args.axis) c.args.c) (drop_bit_grows (axis_of c.args.axis) c.args.c) (drop_bit_leaves (axis_of c.args.axis) c.args.c) c.args.c c.args.n _ _ c.requires.fits c.loop-d.d c.loop-d-test.true _ _ _ c.loop-d.invariant;
 }
 
 pub loop-d-preserved : goal.loop-d-preserved
-loop-d-preserved g c = at_step (drop_bit (axis_of c.args.axis) c.args.c) (drop_bit_grows (axis_of c.args.axis) c.args.c) (drop_bit_leaves (axis_of c.args.axis) c.args.c) c.args.c c.args.n _ _ c.requires.fits c.loop-d.d c.loop-d-test.true _ _ _ c.loop-d.invariant _ _ _ c.drop-other-end.ensures
+loop-d-preserved g c = at_step (drop_bit (axis_of c.args.axis) c.args.c) (drop_bit_grows (axis_of c.args.axis) c.args.c) (drop_bit_leaves (axis_of c.args.axis) c.args.c) c.args.c c.args.n _ _ c.requires.fits c.loop-d.d c.loop-d-test.true _ _ _ c.loop-d.invariant _ _ _ c.drop_other-end.ensures
 
 pub returns : goal.returns
 returns g c = at_end (drop_bit (axis_of c.args.axis) c.args.c) (drop_bit_grows (axis_of c.args.axis) c.args.c) (drop_bit_leaves (axis_of c.args.axis) c.args.c) c.args.c c.args.n _ _ c.loop-d.d _ _ _ (omega arith) (omega arith) c.loop-d.invariant

@@ -10,15 +10,15 @@ use Rattle.floor.proofs.floor.Floor.enter_all.Goals as goal
 pub loop-d-init : goal.loop-d-init
 loop-d-init g c = loop_none (λ d. enter d (saved_box c.args.saved.now d) (moment_of c.args.k)) (is_saved c.args.saved.now) c.args.n _ _
 
-pub enter-if-end-requires : goal.enter-if-end-requires
-enter-if-end-requires g c = record {
+pub enter_if-end-requires : goal.enter_if-end-requires
+enter_if-end-requires g c = record {
   d = c.loop-d-test.true;
   sized = λ r e. c.requires.sized c.loop-d.d r e;
   fits = so_room (λ d. enter d (saved_box c.args.saved.now d) (moment_of c.args.k)) (λ d. enter_grows d (saved_box c.args.saved.now d) (moment_of c.args.k)) (is_saved c.args.saved.now) c.args.n _ _ c.requires.fits c.loop-d.d c.loop-d-test.true _ _ _ c.loop-d.invariant (is_saved c.args.saved.now c.loop-d.d) refl;
 }
 
 pub loop-d-preserved : goal.loop-d-preserved
-loop-d-preserved g c = so_step (λ d. enter d (saved_box c.args.saved.now d) (moment_of c.args.k)) (λ d. enter_grows d (saved_box c.args.saved.now d) (moment_of c.args.k)) (is_saved c.args.saved.now) c.args.n _ _ c.requires.fits c.loop-d.d c.loop-d-test.true _ _ _ c.loop-d.invariant (is_saved c.args.saved.now c.loop-d.d) refl _ _ _ c.enter-if-end.ensures
+loop-d-preserved g c = so_step (λ d. enter d (saved_box c.args.saved.now d) (moment_of c.args.k)) (λ d. enter_grows d (saved_box c.args.saved.now d) (moment_of c.args.k)) (is_saved c.args.saved.now) c.args.n _ _ c.requires.fits c.loop-d.d c.loop-d-test.true _ _ _ c.loop-d.invariant (is_saved c.args.saved.now c.loop-d.d) refl _ _ _ c.enter_if-end.ensures
 
 pub returns : goal.returns
 returns g c = loop_over (λ d. enter d (saved_box c.args.saved.now d) (moment_of c.args.k)) (is_saved c.args.saved.now) c.loop-d.d c.args.n _ _ _ _ _ (omega arith) (omega arith) c.loop-d.invariant

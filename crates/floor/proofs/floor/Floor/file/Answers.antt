@@ -10,11 +10,11 @@ use Rattle.floor.specs.Saved.{is_saved, saved_box}
 use Rattle.floor.proofs.Saving.{saved_followers, saved_boxes}
 use Rattle.floor.proofs.floor.Floor.file.Goals as goal
 
-pub leave-all-end-requires : goal.leave-all-end-requires
-leave-all-end-requires g c = change_leaves (filing c.args.c (plan_of c.args.plan)) (moment_of c.args.k) c.args.n _ _ (is_saved c.followers-saved.result) (saved_box c.followers-saved.result) (saved_followers c.args.c _ c.followers-saved.result c.followers-saved.ensures.saved) (saved_boxes c.args.c _ c.followers-saved.result c.followers-saved.ensures.saved) c.requires.fits
+pub leave_all-end-requires : goal.leave_all-end-requires
+leave_all-end-requires g c = change_leaves (filing c.args.c (plan_of c.args.plan)) (moment_of c.args.k) c.args.n _ _ (is_saved c.followers-saved.result) (saved_box c.followers-saved.result) (saved_followers c.args.c _ c.followers-saved.result c.followers-saved.ensures.saved) (saved_boxes c.args.c _ c.followers-saved.result c.followers-saved.ensures.saved) c.requires.fits
 
-pub enter-all-requires : goal.enter-all-requires
-enter-all-requires g c = record { sized = c.followers-saved.ensures.sized; fits = change_enters (filing c.args.c (plan_of c.args.plan)) (moment_of c.args.k) c.args.n _ _ (is_saved c.followers-saved.result) (saved_box c.followers-saved.result) (saved_followers c.args.c _ c.followers-saved.result c.followers-saved.ensures.saved) (saved_boxes c.args.c _ c.followers-saved.result c.followers-saved.ensures.saved) c.requires.fits _ _ _ _ c.leave-all-end.ensures (ap (λ (b : Book). joined b (g.Q.EventQueue.holds c.leave-all-end.new.self.queue) (table c.leave-all-end.new.self.tables)) c.file.ensures.after) }
+pub enter_all-requires : goal.enter_all-requires
+enter_all-requires g c = record { sized = c.followers-saved.ensures.sized; fits = change_enters (filing c.args.c (plan_of c.args.plan)) (moment_of c.args.k) c.args.n _ _ (is_saved c.followers-saved.result) (saved_box c.followers-saved.result) (saved_followers c.args.c _ c.followers-saved.result c.followers-saved.ensures.saved) (saved_boxes c.args.c _ c.followers-saved.result c.followers-saved.ensures.saved) c.requires.fits _ _ _ _ c.leave_all-end.ensures (ap (λ (b : Book). joined b (g.Q.EventQueue.holds c.leave_all-end.new.self.queue) (table c.leave_all-end.new.self.tables)) c.file.ensures.after) }
 
 pub returns : goal.returns
-returns g c = change_wrote (filing c.args.c (plan_of c.args.plan)) (moment_of c.args.k) c.args.n _ _ (is_saved c.followers-saved.result) (saved_box c.followers-saved.result) (saved_followers c.args.c _ c.followers-saved.result c.followers-saved.ensures.saved) (saved_boxes c.args.c _ c.followers-saved.result c.followers-saved.ensures.saved) c.requires.fits _ _ _ _ c.leave-all-end.ensures (ap (λ (b : Book). joined b (g.Q.EventQueue.holds c.leave-all-end.new.self.queue) (table c.leave-all-end.new.self.tables)) c.file.ensures.after) _ _ _ c.enter_all.ensures
+returns g c = change_wrote (filing c.args.c (plan_of c.args.plan)) (moment_of c.args.k) c.args.n _ _ (is_saved c.followers-saved.result) (saved_box c.followers-saved.result) (saved_followers c.args.c _ c.followers-saved.result c.followers-saved.ensures.saved) (saved_boxes c.args.c _ c.followers-saved.result c.followers-saved.ensures.saved) c.requires.fits _ _ _ _ c.leave_all-end.ensures (ap (λ (b : Book). joined b (g.Q.EventQueue.holds c.leave_all-end.new.self.queue) (table c.leave_all-end.new.self.tables)) c.file.ensures.after) _ _ _ c.enter_all.ensures

@@ -5,4 +5,4 @@ use Rattle.floor.proofs.floor.Floor.fire_bit.Goals as goal
 
 pub returns : goal.returns
 returns g c =
-    bit_fired _ _ _ _ c.args.slot (moment_of c.args.k) _ _ _ _ _ _ _ _ _ c.bit-bit.ensures c.set-bit.ensures c.axis-at.ensures c.lower-at.ensures.value c.higher-at.ensures.value c.grant_bit.ensures
+    bit_fired _ _ _ _ c.args.slot (moment_of c.args.k) _ _ _ _ _ _ _ _ _ c.bit-bit.ensures c.set_bit.ensures c.axis_at.ensures c.lower_at.ensures.value c.higher_at.ensures.value c.grant_bit.ensures

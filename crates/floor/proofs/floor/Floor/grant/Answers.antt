@@ -4,5 +4,5 @@ use Rattle.floor.proofs.floor.Floor.grant.Goals as goal
 
 pub returns : goal.returns
 returns g c =
-    granting _ _ _ _ _ c.args.slot c.grant-number.result c.granted-line.result c.args.n _ _ c.requires.slot c.keep.ensures.meaning c.grant-number.ensures.stands
-    c.grant-number.ensures.number c.granted-line.ensures (omega (arith, c.requires.fits.room))
+    granting _ _ _ _ _ c.args.slot c.grant-number.result c.granted_line.result c.args.n _ _ c.requires.slot c.keep.ensures.meaning c.grant-number.ensures.stands
+    c.grant-number.ensures.number c.granted_line.ensures (omega (arith, c.requires.fits.room))

@@ -9,15 +9,15 @@ use Rattle.floor.proofs.floor.Floor.grant_bits.Goals as goal
 pub loop-d-init : goal.loop-d-init
 loop-d-init g c = at_start (regrant (axis_of c.args.axis) c.args.c (moment_of c.args.k)) (grant_bit_grows (axis_of c.args.axis) c.args.c (moment_of c.args.k)) (grant_bit_leaves (axis_of c.args.axis) c.args.c (moment_of c.args.k)) c.args.c c.args.n _ _
 
-pub grant-other-end-requires : goal.grant-other-end-requires
-grant-other-end-requires g c = record {
+pub grant_other-end-requires : goal.grant_other-end-requires
+grant_other-end-requires g c = record {
   c = c.requires.c;
   d = c.loop-d-test.true;
   fits = at_room (regrant (axis_of c.args.axis) c.args.c (moment_of c.args.k)) (grant_bit_grows (axis_of c.args.axis) c.args.c (moment_of c.args.k)) (grant_bit_leaves (axis_of c.args.axis) c.args.c (moment_of c.args.k)) c.args.c c.args.n _ _ c.requires.fits c.loop-d.d c.loop-d-test.true _ _ _ c.loop-d.invariant;
 }
 
 pub loop-d-preserved : goal.loop-d-preserved
-loop-d-preserved g c = at_step (regrant (axis_of c.args.axis) c.args.c (moment_of c.args.k)) (grant_bit_grows (axis_of c.args.axis) c.args.c (moment_of c.args.k)) (grant_bit_leaves (axis_of c.args.axis) c.args.c (moment_of c.args.k)) c.args.c c.args.n _ _ c.requires.fits c.loop-d.d c.loop-d-test.true _ _ _ c.loop-d.invariant _ _ _ c.grant-other-end.ensures
+loop-d-preserved g c = at_step (regrant (axis_of c.args.axis) c.args.c (moment_of c.args.k)) (grant_bit_grows (axis_of c.args.axis) c.args.c (moment_of c.args.k)) (grant_bit_leaves (axis_of c.args.axis) c.args.c (moment_of c.args.k)) c.args.c c.args.n _ _ c.requires.fits c.loop-d.d c.loop-d-test.true _ _ _ c.loop-d.invariant _ _ _ c.grant_other-end.ensures
 
 pub returns : goal.returns
 returns g c = at_end (regrant (axis_of c.args.axis) c.args.c (moment_of c.args.k)) (grant_bit_grows (axis_of c.args.axis) c.args.c (moment_of c.args.k)) (grant_bit_leaves (axis_of c.args.axis) c.args.c (moment_of c.args.k)) c.args.c c.args.n _ _ c.loop-d.d _ _ _ (omega arith) (omega arith) c.loop-d.invariant

@@ -8,11 +8,11 @@ use Rattle.floor_laws.proofs.Legs.{then_first, then_second, then_both}
 use Rattle.floor.specs.Of.{hall_of}
 use Rattle.floor.proofs.floor.Floor.renew_read.Goals as goal
 
-pub renew-axes-end-requires : goal.renew-axes-end-requires
-renew-axes-end-requires g c = record { c = c.requires.c; fits = then_first (on_axes (λ a. renews c.args.c (moment_of c.args.k) a (others c.args.c (hall_of g.B.FlightBook.meaning g.Q.EventQueue.holds c.args.self.now)))) (leg_slot c.args.c) (at_break c.args.next) c.args.n _ _ (record { room = c.requires.fits.room; numbers = c.requires.fits.numbers }) }
+pub renew_axes-end-requires : goal.renew_axes-end-requires
+renew_axes-end-requires g c = record { c = c.requires.c; fits = then_first (on_axes (λ a. renews c.args.c (moment_of c.args.k) a (others c.args.c (hall_of g.B.FlightBook.meaning g.Q.EventQueue.holds c.args.self.now)))) (leg_slot c.args.c) (at_break c.args.next) c.args.n _ _ (record { room = c.requires.fits.room; numbers = c.requires.fits.numbers }) }
 
-pub grant-leg-requires : goal.grant-leg-requires
-grant-leg-requires g c = record { c = c.requires.c; tick = c.requires.tick; fits = then_second (on_axes (λ a. renews c.args.c (moment_of c.args.k) a (others c.args.c (hall_of g.B.FlightBook.meaning g.Q.EventQueue.holds c.args.self.now)))) (leg_slot c.args.c) (at_break c.args.next) c.args.n _ _ (record { room = c.requires.fits.room; numbers = c.requires.fits.numbers }) _ _ _ c.renew-axes-end.ensures }
+pub grant_leg-requires : goal.grant_leg-requires
+grant_leg-requires g c = record { c = c.requires.c; tick = c.requires.tick; fits = then_second (on_axes (λ a. renews c.args.c (moment_of c.args.k) a (others c.args.c (hall_of g.B.FlightBook.meaning g.Q.EventQueue.holds c.args.self.now)))) (leg_slot c.args.c) (at_break c.args.next) c.args.n _ _ (record { room = c.requires.fits.room; numbers = c.requires.fits.numbers }) _ _ _ c.renew_axes-end.ensures }
 
 pub returns : goal.returns
-returns g c = let v = then_both (on_axes (λ a. renews c.args.c (moment_of c.args.k) a (others c.args.c (hall_of g.B.FlightBook.meaning g.Q.EventQueue.holds c.args.self.now)))) (leg_slot c.args.c) (at_break c.args.next) c.args.n _ _ (record { room = c.requires.fits.room; numbers = c.requires.fits.numbers }) _ _ _ _ _ _ c.renew-axes-end.ensures c.grant_leg.ensures in record { hall = v.hall; slip = v.slip; count = v.count }
+returns g c = let v = then_both (on_axes (λ a. renews c.args.c (moment_of c.args.k) a (others c.args.c (hall_of g.B.FlightBook.meaning g.Q.EventQueue.holds c.args.self.now)))) (leg_slot c.args.c) (at_break c.args.next) c.args.n _ _ (record { room = c.requires.fits.room; numbers = c.requires.fits.numbers }) _ _ _ _ _ _ c.renew_axes-end.ensures c.grant_leg.ensures in record { hall = v.hall; slip = v.slip; count = v.count }

@@ -4,11 +4,11 @@ use Rattle.floor_laws.specs.Writing.{withdraw}
 use Rattle.floor_laws.proofs.Loops.{other_none, other_fits, other_some}
 use Rattle.floor.proofs.floor.Floor.withdraw_other.Goals as goal
 
-pub returns-then-not-is-other : goal.returns-then-not-is-other
-returns-then-not-is-other g c = other_none (withdraw (axis_of c.args.axis) c.args.c) c.args.c c.args.d c.args.n _ _ (sym c.is_other.ensures ∙ c.if-not-is-other.true)
+pub returns-then-not-is_other : goal.returns-then-not-is_other
+returns-then-not-is_other g c = other_none (withdraw (axis_of c.args.axis) c.args.c) c.args.c c.args.d c.args.n _ _ (sym c.is_other.ensures ∙ c.if-not-is_other.true)
 
-pub withdraw-bit-requires : goal.withdraw-bit-requires
-withdraw-bit-requires g c = record { c = c.requires.c; d = c.requires.d; fits = other_fits (withdraw (axis_of c.args.axis) c.args.c) c.args.c c.args.d c.args.n _ _ (sym c.is_other.ensures ∙ c.if-not-is-other.false) c.requires.fits }
+pub withdraw_bit-requires : goal.withdraw_bit-requires
+withdraw_bit-requires g c = record { c = c.requires.c; d = c.requires.d; fits = other_fits (withdraw (axis_of c.args.axis) c.args.c) c.args.c c.args.d c.args.n _ _ (sym c.is_other.ensures ∙ c.if-not-is_other.false) c.requires.fits }
 
 pub returns : goal.returns
-returns g c = other_some (withdraw (axis_of c.args.axis) c.args.c) c.args.c c.args.d c.args.n _ _ _ _ _ (sym c.is_other.ensures ∙ c.if-not-is-other.false) c.withdraw-bit.ensures
+returns g c = other_some (withdraw (axis_of c.args.axis) c.args.c) c.args.c c.args.d c.args.n _ _ _ _ _ (sym c.is_other.ensures ∙ c.if-not-is_other.false) c.withdraw_bit.ensures

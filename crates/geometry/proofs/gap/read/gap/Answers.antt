@@ -6,16 +6,16 @@ use Rattle.geometry.proofs.gap.read.gap.Goals as goal
 read : (r z : ℤ) → SFits w32 z → r ≡ to_z w32 (of_z w32 z) → r ≡ z
 read r z f e = e ∙ to_z-of_z w32 z f
 
-pub overflow-sub-result-2 : goal.overflow-sub-result-2
-overflow-sub-result-2 c =
+pub overflow_sub-result-2 : goal.overflow_sub-result-2
+overflow_sub-result-2 c =
     let f : SFits w32 c.args.p.a = search rules in
     let g : SFits w32 c.args.q.a = search rules in
     sub_fits c.args.p.a c.args.q.a c.args.p.down c.args.q.up f g c.args.p.small_down c.args.q.small_up
     c.from-3.result c.from-4.result c.from.result c.from-2.result
     (read c.from-3.result c.args.p.a f c.from-3.ensures) (read c.from-4.result c.args.q.a g c.from-4.ensures) c.from.ensures c.from-2.ensures
 
-pub invariant-of-result : goal.invariant-of-result
-invariant-of-result c =
+pub invariant_of-result : goal.invariant_of-result
+invariant_of-result c =
     let f : SFits w32 c.args.p.a = search rules in
     let g : SFits w32 c.args.q.a = search rules in
     let h : SFits w32 c.args.p.v = search rules in

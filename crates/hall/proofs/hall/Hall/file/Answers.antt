@@ -15,7 +15,7 @@ file-requires g c =
     let z = state_of g.B.FlightBook.meaning g.Q.EventQueue.holds c.args.self.now in
     let t = time_of c.args.q.now.at in
     let x = (file c.args.craft (plan_of c.args.plan)) in
-    let e = sym c.refuses-file.ensures ∙ ap refused_by c.in-default.is in
+    let e = sym c.refuses_file.ensures ∙ ap refused_by c.in_default.is in
     record { c = file_low (time_of c.args.q.now.at) c.args.craft (plan_of c.args.plan) z c.args.slip.now e; fits = change_fits_alike x (at t) (moment_of c.at.result) z.hall c.args.slip.now c.at.ensures (booking_fits t x z c.args.slip.now e) }
 
 pub returns : goal.returns
@@ -23,5 +23,5 @@ returns g c =
     let z = state_of g.B.FlightBook.meaning g.Q.EventQueue.holds c.args.self.now in
     let t = time_of c.args.q.now.at in
     let x = (file c.args.craft (plan_of c.args.plan)) in
-    change_wrote t (booking x) z _ c.args.slip.now _ _ (sym c.refuses-file.ensures ∙ ap refused_by c.in-default.is)
+    change_wrote t (booking x) z _ c.args.slip.now _ _ (sym c.refuses_file.ensures ∙ ap refused_by c.in_default.is)
     (change_wrote_alike x (at t) (moment_of c.at.result) z.hall _ c.args.slip.now _ _ c.at.ensures c.file.ensures)

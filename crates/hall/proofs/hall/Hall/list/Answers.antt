@@ -12,5 +12,5 @@ returns-then-not-knows g c =
 pub returns : goal.returns
 returns g c =
     let z = state_of g.B.FlightBook.meaning g.Q.EventQueue.holds c.args.self.now in
-    let kept : length c.list-pairs.new.list ≡ length c.args.list.now = search rules in
-    list_told (time_of c.args.q.now.at) z c.args.list.now c.list-pairs.new.list c.list-pairs.result kept (c.knows.ensures ∙ ap not c.if-not-knows.false) c.list-pairs.ensures
+    let kept : length c.list_pairs.new.list ≡ length c.args.list.now = search rules in
+    list_told (time_of c.args.q.now.at) z c.args.list.now c.list_pairs.new.list c.list_pairs.result kept (c.knows.ensures ∙ ap not c.if-not-knows.false) c.list_pairs.ensures

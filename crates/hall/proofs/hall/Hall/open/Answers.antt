@@ -14,16 +14,16 @@ returns-then-scale-gt8 g c = record {
   show = small_show;
 }
 
-pub returns-then-not-is-empty : goal.returns-then-not-is-empty
-returns-then-not-is-empty g c = record {
-  opening = (open_holds (g.B.FlightBook.meaning c.args.book) (g.Q.EventQueue.holds c.args.queue) (subst (λ (k : ℕ). k ≤ 8) c.scale.ensures c.if-scale-gt8.false) (sym c.is-empty.ensures ∙ c.if-not-is-empty.true), refl, refl);
+pub returns-then-not-is_empty : goal.returns-then-not-is_empty
+returns-then-not-is_empty g c = record {
+  opening = (open_holds (g.B.FlightBook.meaning c.args.book) (g.Q.EventQueue.holds c.args.queue) (subst (λ (k : ℕ). k ≤ 8) c.scale.ensures c.if-scale-gt8.false) (sym c.is_empty.ensures ∙ c.if-not-is_empty.true), refl, refl);
   promise = promise;
   show = small_show;
 }
 
 pub returns : goal.returns
 returns g c =
-    let e = sym c.is-empty.ensures ∙ c.if-not-is-empty.false in
+    let e = sym c.is_empty.ensures ∙ c.if-not-is_empty.false in
     let held = held_by (g.Q.EventQueue.holds c.args.queue) (g.met.Q.EventQueue.within c.args.queue) (g.met.Q.EventQueue.usual c.args.queue) in
     record {
       opening = (

@@ -14,8 +14,8 @@ getD_same (suc n) d (suc k) = getD_same n d k
 nowhere : (t : Tree) → t.place ≡ replicate 12352 65535 → (k : ℕ) → place_of t k ≡ 65535
 nowhere t e k = ap (λ l. get_or l k 65535) e ∙ getD_same 12352 65535 k
 
-pub invariant-of-result : goal.invariant-of-result
-invariant-of-result c =
+pub invariant_of-result : goal.invariant_of-result
+invariant_of-result c =
     let t = c.new.result in
     let e = c.new.ensures in (
       refl,

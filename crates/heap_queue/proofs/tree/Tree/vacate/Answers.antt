@@ -51,8 +51,8 @@ module _ (t : Tree) (slot : ℕ) (small : slot < 12352) (ix : Indexed t) (some :
 abbrev taken : Tree → ℕ → Tree
 taken t slot = record { heap = t.heap; place = set t.place slot 65535; len = t.len - 1; size = length-set t.place slot 65535 ∙ t.size }
 
-pub overflow-sub-end : goal.overflow-sub-end
-overflow-sub-end c = one c.args.self.now c.args.slot c.requires.0 c.requires.1 c.if-at.false
+pub overflow_sub-end : goal.overflow_sub-end
+overflow_sub-end c = one c.args.self.now c.args.slot c.requires.0 c.requires.1 c.if-at.false
 
 pub returns-then-at-end : goal.returns-then-at-end
 returns-then-at-end c =

@@ -11,9 +11,9 @@ settle-requires c =
     let left = c.in-Some.ensures.left in
     record { index = left.index; order = left.order _ (table_laws c.args.moments.now) c.requires.order }
 
-pub returns-in-default : goal.returns-in-default
-returns-in-default c =
-    let e = c.in-default.ensures in
+pub returns-in_default : goal.returns-in_default
+returns-in_default c =
+    let e = c.in_default.ensures in
     record { index = e.left.0; order = e.left.1 (comes_before (stamp_at c.args.moments.now)) c.requires.order; gone = e.gone; placed = e.placed }
 
 -- over both steps: u after the slot is taken out, v once the last slot fills the gap

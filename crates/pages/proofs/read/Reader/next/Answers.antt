@@ -12,5 +12,5 @@ next_is (b ∷ bs) e = refl
 pub returns : goal.returns
 returns c =
     let bs : List ℕ = c.args.self.now.rest.now in
-    let n : next_in bs ≡ found (record_told c.in-Some.record) = next_is bs c.if-is-empty.ensures ∙ ap found_as (sym c.in-Some.ensures) in
+    let n : next_in bs ≡ found (record_told c.in-Some.record) = next_is bs c.if-is_empty.ensures ∙ ap found_as (sym c.in-Some.ensures) in
     record { told = sym n; left = take_rest bs 11 ∙ sym (ap (λ (f : Found). left_after f bs) n) }

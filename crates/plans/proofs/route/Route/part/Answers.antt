@@ -5,8 +5,8 @@ use Rattle.plans.proofs.Routed.{route_right}
 use Rattle.plans.proofs.Casts.{leg_right_at}
 use Rattle.plans.proofs.route.Route.part.Goals as goal
 
-pub part-of-requires : goal.part-of-requires
-part-of-requires c =
+pub part_of-requires : goal.part_of-requires
+part_of-requires c =
     let r = c.args.self.now in
     let p = r.plan in
     let q = route_right r in

@@ -3,9 +3,9 @@ use Rattle.riding.specs.Seats.{seats_of}
 use Rattle.riding.proofs.Asked.{follow_alone, follow_rides}
 use Rattle.riding.proofs.riding.RidingFlightBook.follows.Goals as goal
 
-pub returns-in-default-seat : goal.returns-in-default-seat
-returns-in-default-seat g c =
-    follow_alone (seats_of c.args.self.now.seats) (g.B.FlightBook.meaning c.args.self.now.below) c.args.craft c.args.leader c.in-Ok.own c.in-Ok.ensures c.in-default-seat.ensures.value
+pub returns-in_default-seat : goal.returns-in_default-seat
+returns-in_default-seat g c =
+    follow_alone (seats_of c.args.self.now.seats) (g.B.FlightBook.meaning c.args.self.now.below) c.args.craft c.args.leader c.in-Ok.own c.in-Ok.ensures c.in_default-seat.ensures.value
 
 pub returns-then-own : goal.returns-then-own
 returns-then-own g c =

@@ -3,9 +3,9 @@ use Rattle.riding.specs.Seats.{seats_of}
 use Rattle.riding.proofs.Asked.{leg_alone, leg_rides, leg_small}
 use Rattle.riding.proofs.riding.RidingFlightBook.leg.Goals as goal
 
-pub returns-in-default-seat : goal.returns-in-default-seat
-returns-in-default-seat g c =
-    leg_alone (seats_of c.args.self.now.seats) (g.B.FlightBook.meaning c.args.self.now.below) c.args.craft (time_of c.args.t) c.in-Ok.own c.in-Ok.ensures c.in-default-seat.ensures.value
+pub returns-in_default-seat : goal.returns-in_default-seat
+returns-in_default-seat g c =
+    leg_alone (seats_of c.args.self.now.seats) (g.B.FlightBook.meaning c.args.self.now.below) c.args.craft (time_of c.args.t) c.in-Ok.own c.in-Ok.ensures c.in_default-seat.ensures.value
 
 pub sum-requires : goal.sum-requires
 sum-requires g c =

@@ -2,8 +2,8 @@ use Rattle.std.proofs.Common.{ℕ, ◌+◌, ◌<◌, length, arith, rules}
 use Rattle.tables.proofs.Places.{granted_set, granted_up}
 use Rattle.tables.proofs.tables.Tables.grant.Goals as goal
 
-pub invariant-of-self : goal.invariant-of-self
-invariant-of-self c =
+pub invariant_of-self : goal.invariant_of-self
+invariant_of-self c =
     let t = c.args.self.now in
     let w : c.args.slot < length t.numbers = omega arith in
     (search rules, (t.small, (omega arith, (granted_set t.numbers c.args.slot (t.last + 1) (t.last + 1) w (omega arith) (granted_up t.numbers t.last (t.last + 1) (omega arith) t.granted), tt))))

@@ -2,8 +2,8 @@ use Rattle.std.proofs.Common.{ℕ, ◌<◌, length, arith, rules}
 use Rattle.tables.proofs.Places.{sized_set}
 use Rattle.tables.proofs.tables.Tables.set_craft.Goals as goal
 
-pub invariant-of-self : goal.invariant-of-self
-invariant-of-self c =
+pub invariant_of-self : goal.invariant_of-self
+invariant_of-self c =
     let t = c.args.self.now in
     let w : c.args.c < length t.craft = omega arith in
     (search rules, (sized_set t.craft c.args.c c.args.craft w c.requires.sized t.small, (t.few, (t.granted, tt))))

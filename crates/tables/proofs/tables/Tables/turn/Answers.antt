@@ -10,10 +10,10 @@ pub returns : goal.returns
 returns c =
     let t = c.args.self.now in
     let w : c.args.c < length t.craft = omega arith in
-    craft_is _ _ (table t) (placed record_in t.craft c.args.c c.turn-place.new.place None w ∙ ap (put (λ k. record_in (get_or t.craft k None)) c.args.c) c.turn-place.ensures.value)
+    craft_is _ _ (table t) (placed record_in t.craft c.args.c c.turn_place.new.place None w ∙ ap (put (λ k. record_in (get_or t.craft k None)) c.args.c) c.turn_place.ensures.value)
 
-pub invariant-of-self : goal.invariant-of-self
-invariant-of-self c =
+pub invariant_of-self : goal.invariant_of-self
+invariant_of-self c =
     let t = c.args.self.now in
     let w : c.args.c < length t.craft = omega arith in
-    (search rules, (sized_set t.craft c.args.c c.turn-place.new.place w (c.turn-place.ensures.sized (λ r e. t.small c.args.c r e)) t.small, (t.few, (t.granted, tt))))
+    (search rules, (sized_set t.craft c.args.c c.turn_place.new.place w (c.turn_place.ensures.sized (λ r e. t.small c.args.c r e)) t.small, (t.few, (t.granted, tt))))

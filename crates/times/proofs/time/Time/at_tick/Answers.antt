@@ -2,5 +2,5 @@ use Rattle.std.proofs.Common.{arith}
 use Rattle.times.proofs.Times.{coprime_one}
 use Rattle.times.proofs.time.Time.at_tick.Goals as goal
 
-pub invariant-of-result : goal.invariant-of-result
-invariant-of-result c = (omega arith, (omega arith, (omega arith, (coprime_one c.from.result, tt))))
+pub invariant_of-result : goal.invariant_of-result
+invariant_of-result c = (omega arith, (omega arith, (omega arith, (coprime_one c.from.result, tt))))

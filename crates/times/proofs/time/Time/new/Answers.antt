@@ -10,8 +10,8 @@ fields n d e f g p q h s b i = rw q (fields_made n d g h s b (rw p at i))
 value : (n d e f g : ℕ) → e ≡ d → f ≡ d → 0 < d → d ≤ 16000 → n ≤ 50000 * d → IsGcd n e g → Ok (record { num = n / g; den = f / g }) ≡ time_made n d
 value n d e f g p q h s b i = rw q (sym (value_made n d g h s b (rw p at i)))
 
-pub invariant-of-result : goal.invariant-of-result
-invariant-of-result c =
+pub invariant_of-result : goal.invariant_of-result
+invariant_of-result c =
     fields c.args.n c.args.d c.from-2.result c.from-3.result c.gcd-g.result c.from-2.ensures c.from-3.ensures
     (omega arith) (omega arith) (omega arith) c.gcd-g.ensures
 

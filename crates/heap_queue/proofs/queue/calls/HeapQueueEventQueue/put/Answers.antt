@@ -15,8 +15,8 @@ settle-requires c =
       order = set_order q.moments c.args.slot c.args.moment _ _ seated.index (seated.order _ (table_laws q.moments) q.order);
     }
 
-pub invariant-of-self : goal.invariant-of-self
-invariant-of-self c =
+pub invariant_of-self : goal.invariant_of-self
+invariant_of-self c =
     let q = c.args.self.now in
     let e = c.settle.ensures in (
       length-set q.moments c.args.slot c.args.moment ∙ q.long,

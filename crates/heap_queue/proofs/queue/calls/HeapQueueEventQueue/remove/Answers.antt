@@ -10,8 +10,8 @@ withdraw-requires c =
     let q = c.args.self.now in
     record { slot = c.if-slot-ge-SLOTS.false; index = (q.room, q.slots, q.places, q.within, q.found); order = q.order }
 
-pub invariant-of-self : goal.invariant-of-self
-invariant-of-self c =
+pub invariant_of-self : goal.invariant_of-self
+invariant_of-self c =
     let q = c.args.self.now in
     let e = c.withdraw.ensures in (
       q.long,
