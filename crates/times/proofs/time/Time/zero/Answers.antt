@@ -3,4 +3,4 @@ use Rattle.times.proofs.Times.{coprime_one}
 use Rattle.times.proofs.time.Time.zero.Goals as goal
 
 pub invariant_of-result : goal.invariant_of-result
-invariant_of-result c = (omega arith, (omega arith, (omega arith, (coprime_one _, tt))))
+invariant_of-result c = record { positive = omega arith; small = omega arith; inside = omega arith; least = coprime_one _ }
