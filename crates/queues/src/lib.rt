@@ -50,7 +50,7 @@ pub trait EventQueue {
 /// Sets a slot's moment, or empties the slot where there is none to set.
 pub fn keep<Q: EventQueue>(queue: &mut Q, slot: u16, moment: Option<Moment>) -> Result<(), Refusal>
     ensures answer { result ≡ answered slot tt }
-    ensures meaning { holds queue.new ≡ changed (holds queue.old) slot (stored moment) }
+    ensures meaning { Q.holds queue.new ≡ changed (Q.holds queue.old) slot (stored moment) }
     ensures refused { 12352 ≤ slot → queue.new ≡ queue.old }
 {
     match moment {

@@ -15,7 +15,7 @@ use times::Refusal;
 fn is_listed<B: FlightBook, Q: EventQueue>(floor: &Floor<B, Q>, c: u8, d: u8) -> bool
     requires c { c < 64 }
     requires d { d < 64 }
-    ensures { result ≡ listed (hall_of meaning holds floor.now) c d }
+    ensures { result ≡ listed (hall_of B.meaning Q.holds floor.now) c d }
 {
     floor.is_entered(c) && c < d && floor.is_entered(d) && floor.together(c, d)
 }
@@ -32,7 +32,7 @@ fn entry_of(c: u8, d: u8) -> u16
 /// How many pairs of a craft with a higher number are listed.
 fn count_row<B: FlightBook, Q: EventQueue>(floor: &Floor<B, Q>, c: u8) -> usize
     requires { c < 64 }
-    ensures value { result ≡ length (row (hall_of meaning holds floor.now) c) }
+    ensures value { result ≡ length (row (hall_of B.meaning Q.holds floor.now) c) }
     ensures most { result ≤ 64 }
 {
     let mut n = 0;
@@ -46,7 +46,7 @@ fn count_row<B: FlightBook, Q: EventQueue>(floor: &Floor<B, Q>, c: u8) -> usize
 
 /// How many pairs touch by their bits.
 pub fn count_pairs<B: FlightBook, Q: EventQueue>(floor: &Floor<B, Q>) -> usize
-    ensures { result ≡ length (pairs (hall_of meaning holds floor.now)) }
+    ensures { result ≡ length (pairs (hall_of B.meaning Q.holds floor.now)) }
 {
     let mut n = 0;
     for c in 0..64 {
@@ -63,9 +63,9 @@ fn list_row<B: FlightBook, Q: EventQueue>(
     n: usize,
 ) -> usize
     requires c { c < 64 }
-    requires room { n + length (row (hall_of meaning holds floor.now) c) ≤ length list.old }
-    ensures list { list.new ≡ written n (row (hall_of meaning holds floor.now) c) list.old }
-    ensures count { result ≡ n + length (row (hall_of meaning holds floor.now) c) }
+    requires room { n + length (row (hall_of B.meaning Q.holds floor.now) c) ≤ length list.old }
+    ensures list { list.new ≡ written n (row (hall_of B.meaning Q.holds floor.now) c) list.old }
+    ensures count { result ≡ n + length (row (hall_of B.meaning Q.holds floor.now) c) }
 {
     let mut end = n;
     for d in 0..64 {
@@ -82,7 +82,7 @@ pub fn list_pairs<B: FlightBook, Q: EventQueue>(
     floor: &Floor<B, Q>,
     list: &mut [u16],
 ) -> Result<usize, Refusal>
-    ensures { MatchResult result (λ n. Listed (hall_of meaning holds floor.now) list.old list.new n) (λ e. TooShort (hall_of meaning holds floor.now) list.old list.new × (number_of e ≡ 15)) }
+    ensures { MatchResult result (λ n. Listed (hall_of B.meaning Q.holds floor.now) list.old list.new n) (λ e. TooShort (hall_of B.meaning Q.holds floor.now) list.old list.new × (number_of e ≡ 15)) }
 {
     if list.len() < count_pairs(floor) {
         return Err(Refusal::Room);

@@ -46,7 +46,7 @@ fn next<B: FlightBook, Q: EventQueue>(
     lines: usize,
     bytes: usize,
 ) -> Result<(u16, Moment), Ended>
-    ensures { MatchResult result (λ f. Next (time_of goal) lines bytes (hall_of meaning holds floor.now) (f.0, moment_of f.1)) (λ e. Stop (time_of goal) lines bytes (hall_of meaning holds floor.now) (ended_number e)) }
+    ensures { MatchResult result (λ f. Next (time_of goal) lines bytes (hall_of B.meaning Q.holds floor.now) (f.0, moment_of f.1)) (λ e. Stop (time_of goal) lines bytes (hall_of B.meaning Q.holds floor.now) (ended_number e)) }
 {
     let Some(due) = floor.due(goal) else {
         return Err(Ended::NothingDue);
@@ -104,7 +104,7 @@ pub fn run<B: FlightBook, Q: EventQueue>(
     slip: &mut [u32],
     page: &mut [u8],
 ) -> Ran
-    ensures { Went (time_of goal) (hall_of meaning holds floor.old) (hall_of meaning holds floor.new) slip.old slip.new page.old page.new (ended_number result.ended) result.steps result.lines result.bytes }
+    ensures { Went (time_of goal) (hall_of B.meaning Q.holds floor.old) (hall_of B.meaning Q.holds floor.new) slip.old slip.new page.old page.new (ended_number result.ended) result.steps result.lines result.bytes }
 {
     let mut steps = 0;
     let mut lines = 0;

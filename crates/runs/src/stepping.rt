@@ -30,7 +30,7 @@ fn foretell<B: FlightBook, Q: EventQueue>(
     slot: u16,
     moment: Moment,
 ) -> Encounter
-    ensures { encounter_told result ≡ (step_of_lem slot (moment_of moment) (hall_of meaning holds floor.now)).news }
+    ensures { encounter_told result ≡ (step_of_lem slot (moment_of moment) (hall_of B.meaning Q.holds floor.now)).news }
 {
     let (c, d) = (lower_at(slot), higher_at(slot));
     let bits = (
@@ -51,11 +51,11 @@ pub fn step<B: FlightBook, Q: EventQueue>(
     n: usize,
 ) -> Stepped
     requires slot { slot < 12352 }
-    requires fits { Fits (fire slot (moment_of moment)) n (hall_of meaning holds floor.old) slip.old }
-    ensures wrote { Wrote (fire slot (moment_of moment)) n (hall_of meaning holds floor.old) (hall_of meaning holds floor.new) slip.old slip.new result.end }
-    ensures number { result.number ≡ (step_of_lem slot (moment_of moment) (hall_of meaning holds floor.old)).number }
-    ensures time { time_of result.time ≡ (step_of_lem slot (moment_of moment) (hall_of meaning holds floor.old)).time }
-    ensures news { encounter_told result.news ≡ (step_of_lem slot (moment_of moment) (hall_of meaning holds floor.old)).news }
+    requires fits { Fits (fire slot (moment_of moment)) n (hall_of B.meaning Q.holds floor.old) slip.old }
+    ensures wrote { Wrote (fire slot (moment_of moment)) n (hall_of B.meaning Q.holds floor.old) (hall_of B.meaning Q.holds floor.new) slip.old slip.new result.end }
+    ensures number { result.number ≡ (step_of_lem slot (moment_of moment) (hall_of B.meaning Q.holds floor.old)).number }
+    ensures time { time_of result.time ≡ (step_of_lem slot (moment_of moment) (hall_of B.meaning Q.holds floor.old)).time }
+    ensures news { encounter_told result.news ≡ (step_of_lem slot (moment_of moment) (hall_of B.meaning Q.holds floor.old)).news }
 {
     let news = foretell(floor, slot, moment);
     let number = floor.number(slot);

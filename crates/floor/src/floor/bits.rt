@@ -18,7 +18,7 @@ impl<B: FlightBook, Q: EventQueue> Floor<B, Q> {
     /// A craft's box on an axis, on its present leg.
     fn span(&self, axis: Axis, c: u8) -> Span
         requires { c < 64 }
-        ensures { span_of result ≡ ends_of (axis_of axis) c (hall_of meaning holds self.now) }
+        ensures { span_of result ≡ ends_of (axis_of axis) c (hall_of B.meaning Q.holds self.now) }
     {
         let record = self.tables.record(c as usize);
         Span::new(record.leg(axis), record.sizes(), axis)
@@ -36,8 +36,8 @@ impl<B: FlightBook, Q: EventQueue> Floor<B, Q> {
     ) -> usize
         requires c { c < 64 }
         requires d { d < 64 }
-        requires fits { Fits (grant_bit (axis_of axis) c d (moment_of k)) n (hall_of meaning holds self.old) slip.old }
-        ensures { Wrote (grant_bit (axis_of axis) c d (moment_of k)) n (hall_of meaning holds self.old) (hall_of meaning holds self.new) slip.old slip.new result }
+        requires fits { Fits (grant_bit (axis_of axis) c d (moment_of k)) n (hall_of B.meaning Q.holds self.old) slip.old }
+        ensures { Wrote (grant_bit (axis_of axis) c d (moment_of k)) n (hall_of B.meaning Q.holds self.old) (hall_of B.meaning Q.holds self.new) slip.old slip.new result }
     {
         let slot = slot_of(axis, c, d);
         let bit = self.tables.bit(slot as usize);
@@ -57,8 +57,8 @@ impl<B: FlightBook, Q: EventQueue> Floor<B, Q> {
     ) -> usize
         requires c { c < 64 }
         requires d { d < 64 }
-        requires fits { Fits (enter_bit (axis_of axis) c (moment_of k) d) n (hall_of meaning holds self.old) slip.old }
-        ensures { Wrote (enter_bit (axis_of axis) c (moment_of k) d) n (hall_of meaning holds self.old) (hall_of meaning holds self.new) slip.old slip.new result }
+        requires fits { Fits (enter_bit (axis_of axis) c (moment_of k) d) n (hall_of B.meaning Q.holds self.old) slip.old }
+        ensures { Wrote (enter_bit (axis_of axis) c (moment_of k) d) n (hall_of B.meaning Q.holds self.old) (hall_of B.meaning Q.holds self.new) slip.old slip.new result }
     {
         let bit = overlaps(self.span(axis, c.min(d)), self.span(axis, c.max(d)), k);
         self.tables.set_bit(slot_of(axis, c, d) as usize, bit);
@@ -69,8 +69,8 @@ impl<B: FlightBook, Q: EventQueue> Floor<B, Q> {
     fn withdraw_bit(&mut self, axis: Axis, c: u8, d: u8, slip: &mut [u32], n: usize) -> usize
         requires c { c < 64 }
         requires d { d < 64 }
-        requires fits { Fits (withdraw (axis_of axis) c d) n (hall_of meaning holds self.old) slip.old }
-        ensures { Wrote (withdraw (axis_of axis) c d) n (hall_of meaning holds self.old) (hall_of meaning holds self.new) slip.old slip.new result }
+        requires fits { Fits (withdraw (axis_of axis) c d) n (hall_of B.meaning Q.holds self.old) slip.old }
+        ensures { Wrote (withdraw (axis_of axis) c d) n (hall_of B.meaning Q.holds self.old) (hall_of B.meaning Q.holds self.new) slip.old slip.new result }
     {
         self.take_away(Taken::Withdrawn, slot_of(axis, c, d), slip, n)
     }
@@ -79,8 +79,8 @@ impl<B: FlightBook, Q: EventQueue> Floor<B, Q> {
     fn drop_bit(&mut self, axis: Axis, c: u8, d: u8, slip: &mut [u32], n: usize) -> usize
         requires c { c < 64 }
         requires d { d < 64 }
-        requires fits { Fits (drop_bit (axis_of axis) c d) n (hall_of meaning holds self.old) slip.old }
-        ensures { Wrote (drop_bit (axis_of axis) c d) n (hall_of meaning holds self.old) (hall_of meaning holds self.new) slip.old slip.new result }
+        requires fits { Fits (drop_bit (axis_of axis) c d) n (hall_of B.meaning Q.holds self.old) slip.old }
+        ensures { Wrote (drop_bit (axis_of axis) c d) n (hall_of B.meaning Q.holds self.old) (hall_of B.meaning Q.holds self.new) slip.old slip.new result }
     {
         let end = self.withdraw_bit(axis, c, d, slip, n);
         self.tables.set_bit(slot_of(axis, c, d) as usize, false);
@@ -90,7 +90,7 @@ impl<B: FlightBook, Q: EventQueue> Floor<B, Q> {
     /// Whether d is entered and is not c.
     fn is_other(&self, c: u8, d: u8) -> bool
         requires { d < 64 }
-        ensures { result ≡ other c (hall_of meaning holds self.now) d }
+        ensures { result ≡ other c (hall_of B.meaning Q.holds self.now) d }
     {
         self.tables.is_entered(d as usize) && d != c
     }
@@ -107,8 +107,8 @@ impl<B: FlightBook, Q: EventQueue> Floor<B, Q> {
     ) -> usize
         requires c { c < 64 }
         requires d { d < 64 }
-        requires fits { Fits (if_other c (enter_bit (axis_of axis) c (moment_of k)) d) n (hall_of meaning holds self.old) slip.old }
-        ensures { Wrote (if_other c (enter_bit (axis_of axis) c (moment_of k)) d) n (hall_of meaning holds self.old) (hall_of meaning holds self.new) slip.old slip.new result }
+        requires fits { Fits (if_other c (enter_bit (axis_of axis) c (moment_of k)) d) n (hall_of B.meaning Q.holds self.old) slip.old }
+        ensures { Wrote (if_other c (enter_bit (axis_of axis) c (moment_of k)) d) n (hall_of B.meaning Q.holds self.old) (hall_of B.meaning Q.holds self.new) slip.old slip.new result }
     {
         if !self.is_other(c, d) {
             return n;
@@ -126,8 +126,8 @@ impl<B: FlightBook, Q: EventQueue> Floor<B, Q> {
         n: usize,
     ) -> usize
         requires c { c < 64 }
-        requires fits { Fits (each (enter_bit (axis_of axis) c (moment_of k)) (others c (hall_of meaning holds self.old))) n (hall_of meaning holds self.old) slip.old }
-        ensures { Wrote (each (enter_bit (axis_of axis) c (moment_of k)) (others c (hall_of meaning holds self.old))) n (hall_of meaning holds self.old) (hall_of meaning holds self.new) slip.old slip.new result }
+        requires fits { Fits (each (enter_bit (axis_of axis) c (moment_of k)) (others c (hall_of B.meaning Q.holds self.old))) n (hall_of B.meaning Q.holds self.old) slip.old }
+        ensures { Wrote (each (enter_bit (axis_of axis) c (moment_of k)) (others c (hall_of B.meaning Q.holds self.old))) n (hall_of B.meaning Q.holds self.old) (hall_of B.meaning Q.holds self.new) slip.old slip.new result }
     {
         let mut end = n;
         for d in 0..64 {
@@ -140,8 +140,8 @@ impl<B: FlightBook, Q: EventQueue> Floor<B, Q> {
     fn drop_other(&mut self, axis: Axis, c: u8, d: u8, slip: &mut [u32], n: usize) -> usize
         requires c { c < 64 }
         requires d { d < 64 }
-        requires fits { Fits (if_other c (drop_bit (axis_of axis) c) d) n (hall_of meaning holds self.old) slip.old }
-        ensures { Wrote (if_other c (drop_bit (axis_of axis) c) d) n (hall_of meaning holds self.old) (hall_of meaning holds self.new) slip.old slip.new result }
+        requires fits { Fits (if_other c (drop_bit (axis_of axis) c) d) n (hall_of B.meaning Q.holds self.old) slip.old }
+        ensures { Wrote (if_other c (drop_bit (axis_of axis) c) d) n (hall_of B.meaning Q.holds self.old) (hall_of B.meaning Q.holds self.new) slip.old slip.new result }
     {
         if !self.is_other(c, d) {
             return n;
@@ -152,8 +152,8 @@ impl<B: FlightBook, Q: EventQueue> Floor<B, Q> {
     /// On an axis, drops the bits of a craft with every other entered craft, ascending.
     pub(super) fn drop_bits(&mut self, axis: Axis, c: u8, slip: &mut [u32], n: usize) -> usize
         requires c { c < 64 }
-        requires fits { Fits (each (drop_bit (axis_of axis) c) (others c (hall_of meaning holds self.old))) n (hall_of meaning holds self.old) slip.old }
-        ensures { Wrote (each (drop_bit (axis_of axis) c) (others c (hall_of meaning holds self.old))) n (hall_of meaning holds self.old) (hall_of meaning holds self.new) slip.old slip.new result }
+        requires fits { Fits (each (drop_bit (axis_of axis) c) (others c (hall_of B.meaning Q.holds self.old))) n (hall_of B.meaning Q.holds self.old) slip.old }
+        ensures { Wrote (each (drop_bit (axis_of axis) c) (others c (hall_of B.meaning Q.holds self.old))) n (hall_of B.meaning Q.holds self.old) (hall_of B.meaning Q.holds self.new) slip.old slip.new result }
     {
         let mut end = n;
         for d in 0..64 {
@@ -166,8 +166,8 @@ impl<B: FlightBook, Q: EventQueue> Floor<B, Q> {
     fn withdraw_other(&mut self, axis: Axis, c: u8, d: u8, slip: &mut [u32], n: usize) -> usize
         requires c { c < 64 }
         requires d { d < 64 }
-        requires fits { Fits (if_other c (withdraw (axis_of axis) c) d) n (hall_of meaning holds self.old) slip.old }
-        ensures { Wrote (if_other c (withdraw (axis_of axis) c) d) n (hall_of meaning holds self.old) (hall_of meaning holds self.new) slip.old slip.new result }
+        requires fits { Fits (if_other c (withdraw (axis_of axis) c) d) n (hall_of B.meaning Q.holds self.old) slip.old }
+        ensures { Wrote (if_other c (withdraw (axis_of axis) c) d) n (hall_of B.meaning Q.holds self.old) (hall_of B.meaning Q.holds self.new) slip.old slip.new result }
     {
         if !self.is_other(c, d) {
             return n;
@@ -178,8 +178,8 @@ impl<B: FlightBook, Q: EventQueue> Floor<B, Q> {
     /// On an axis, withdraws the certificates of a craft's bits, the other craft ascending.
     fn withdraw_bits(&mut self, axis: Axis, c: u8, slip: &mut [u32], n: usize) -> usize
         requires c { c < 64 }
-        requires fits { Fits (each (withdraw (axis_of axis) c) (others c (hall_of meaning holds self.old))) n (hall_of meaning holds self.old) slip.old }
-        ensures { Wrote (each (withdraw (axis_of axis) c) (others c (hall_of meaning holds self.old))) n (hall_of meaning holds self.old) (hall_of meaning holds self.new) slip.old slip.new result }
+        requires fits { Fits (each (withdraw (axis_of axis) c) (others c (hall_of B.meaning Q.holds self.old))) n (hall_of B.meaning Q.holds self.old) slip.old }
+        ensures { Wrote (each (withdraw (axis_of axis) c) (others c (hall_of B.meaning Q.holds self.old))) n (hall_of B.meaning Q.holds self.old) (hall_of B.meaning Q.holds self.new) slip.old slip.new result }
     {
         let mut end = n;
         for d in 0..64 {
@@ -200,8 +200,8 @@ impl<B: FlightBook, Q: EventQueue> Floor<B, Q> {
     ) -> usize
         requires c { c < 64 }
         requires d { d < 64 }
-        requires fits { Fits (if_other c (regrant (axis_of axis) c (moment_of k)) d) n (hall_of meaning holds self.old) slip.old }
-        ensures { Wrote (if_other c (regrant (axis_of axis) c (moment_of k)) d) n (hall_of meaning holds self.old) (hall_of meaning holds self.new) slip.old slip.new result }
+        requires fits { Fits (if_other c (regrant (axis_of axis) c (moment_of k)) d) n (hall_of B.meaning Q.holds self.old) slip.old }
+        ensures { Wrote (if_other c (regrant (axis_of axis) c (moment_of k)) d) n (hall_of B.meaning Q.holds self.old) (hall_of B.meaning Q.holds self.new) slip.old slip.new result }
     {
         if !self.is_other(c, d) {
             return n;
@@ -212,8 +212,8 @@ impl<B: FlightBook, Q: EventQueue> Floor<B, Q> {
     /// On an axis, grants the certificates of a craft's bits, the other craft ascending.
     fn grant_bits(&mut self, axis: Axis, c: u8, k: Moment, slip: &mut [u32], n: usize) -> usize
         requires c { c < 64 }
-        requires fits { Fits (each (regrant (axis_of axis) c (moment_of k)) (others c (hall_of meaning holds self.old))) n (hall_of meaning holds self.old) slip.old }
-        ensures { Wrote (each (regrant (axis_of axis) c (moment_of k)) (others c (hall_of meaning holds self.old))) n (hall_of meaning holds self.old) (hall_of meaning holds self.new) slip.old slip.new result }
+        requires fits { Fits (each (regrant (axis_of axis) c (moment_of k)) (others c (hall_of B.meaning Q.holds self.old))) n (hall_of B.meaning Q.holds self.old) slip.old }
+        ensures { Wrote (each (regrant (axis_of axis) c (moment_of k)) (others c (hall_of B.meaning Q.holds self.old))) n (hall_of B.meaning Q.holds self.old) (hall_of B.meaning Q.holds self.new) slip.old slip.new result }
     {
         let mut end = n;
         for d in 0..64 {
@@ -232,8 +232,8 @@ impl<B: FlightBook, Q: EventQueue> Floor<B, Q> {
         n: usize,
     ) -> usize
         requires c { c < 64 }
-        requires fits { Fits (renew c (others c (hall_of meaning holds self.old)) (moment_of k) (axis_of axis)) n (hall_of meaning holds self.old) slip.old }
-        ensures { Wrote (renew c (others c (hall_of meaning holds self.old)) (moment_of k) (axis_of axis)) n (hall_of meaning holds self.old) (hall_of meaning holds self.new) slip.old slip.new result }
+        requires fits { Fits (renew c (others c (hall_of B.meaning Q.holds self.old)) (moment_of k) (axis_of axis)) n (hall_of B.meaning Q.holds self.old) slip.old }
+        ensures { Wrote (renew c (others c (hall_of B.meaning Q.holds self.old)) (moment_of k) (axis_of axis)) n (hall_of B.meaning Q.holds self.old) (hall_of B.meaning Q.holds self.new) slip.old slip.new result }
     {
         let end = self.withdraw_bits(axis, c, slip, n);
         self.grant_bits(axis, c, k, slip, end)

@@ -22,7 +22,7 @@ impl<B: FlightBook, Q: EventQueue> Floor<B, Q> {
     fn follower(&self, c: u8, d: u8) -> Option<CraftRecord>
         requires c { c < 64 }
         requires d { d < 64 }
-        ensures value { record_in result ≡ follower_of c (hall_of meaning holds self.now) d }
+        ensures value { record_in result ≡ follower_of c (hall_of B.meaning Q.holds self.now) d }
         ensures sized { Sized result }
     {
         match self.book.follows(d, c) {
@@ -34,7 +34,7 @@ impl<B: FlightBook, Q: EventQueue> Floor<B, Q> {
     /// The records of the entered craft that follow c, by craft.
     fn followers(&self, c: u8) -> [Option<CraftRecord>; 64]
         requires { c < 64 }
-        ensures saved { Saved c (hall_of meaning holds self.now) 64 result }
+        ensures saved { Saved c (hall_of B.meaning Q.holds self.now) 64 result }
         ensures sized { AllSized result }
     {
         let mut saved = [None; 64];
@@ -47,16 +47,16 @@ impl<B: FlightBook, Q: EventQueue> Floor<B, Q> {
     /// A craft leaves, where it is to.
     fn leave_if(&mut self, so: bool, d: u8, slip: &mut [u32], n: usize) -> usize
         requires d { d < 64 }
-        requires fits { Fits (where_so so (leave d)) n (hall_of meaning holds self.old) slip.old }
-        ensures { Wrote (where_so so (leave d)) n (hall_of meaning holds self.old) (hall_of meaning holds self.new) slip.old slip.new result }
+        requires fits { Fits (where_so so (leave d)) n (hall_of B.meaning Q.holds self.old) slip.old }
+        ensures { Wrote (where_so so (leave d)) n (hall_of B.meaning Q.holds self.old) (hall_of B.meaning Q.holds self.new) slip.old slip.new result }
     {
         if so { self.leave(d, slip, n) } else { n }
     }
 
     /// The craft whose records are saved leave, ascending.
     fn leave_all(&mut self, saved: &[Option<CraftRecord>; 64], slip: &mut [u32], n: usize) -> usize
-        requires { Fits (prefix leave (is_saved saved.now) 64) n (hall_of meaning holds self.old) slip.old }
-        ensures { Wrote (prefix leave (is_saved saved.now) 64) n (hall_of meaning holds self.old) (hall_of meaning holds self.new) slip.old slip.new result }
+        requires { Fits (prefix leave (is_saved saved.now) 64) n (hall_of B.meaning Q.holds self.old) slip.old }
+        ensures { Wrote (prefix leave (is_saved saved.now) 64) n (hall_of B.meaning Q.holds self.old) (hall_of B.meaning Q.holds self.new) slip.old slip.new result }
     {
         let mut end = n;
         for d in 0..64u8 {
@@ -76,8 +76,8 @@ impl<B: FlightBook, Q: EventQueue> Floor<B, Q> {
     ) -> usize
         requires d { d < 64 }
         requires sized { Sized kept }
-        requires fits { Fits (where_so (is_some kept) (enter d (box_in kept) (moment_of k))) n (hall_of meaning holds self.old) slip.old }
-        ensures { Wrote (where_so (is_some kept) (enter d (box_in kept) (moment_of k))) n (hall_of meaning holds self.old) (hall_of meaning holds self.new) slip.old slip.new result }
+        requires fits { Fits (where_so (is_some kept) (enter d (box_in kept) (moment_of k))) n (hall_of B.meaning Q.holds self.old) slip.old }
+        ensures { Wrote (where_so (is_some kept) (enter d (box_in kept) (moment_of k))) n (hall_of B.meaning Q.holds self.old) (hall_of B.meaning Q.holds self.new) slip.old slip.new result }
     {
         match kept {
             Some(craft) => self.enter(d, craft.sizes(), k, slip, n),
@@ -94,8 +94,8 @@ impl<B: FlightBook, Q: EventQueue> Floor<B, Q> {
         n: usize,
     ) -> usize
         requires sized { AllSized saved.now }
-        requires fits { Fits (prefix (λ d. enter d (saved_box saved.now d) (moment_of k)) (is_saved saved.now) 64) n (hall_of meaning holds self.old) slip.old }
-        ensures { Wrote (prefix (λ d. enter d (saved_box saved.now d) (moment_of k)) (is_saved saved.now) 64) n (hall_of meaning holds self.old) (hall_of meaning holds self.new) slip.old slip.new result }
+        requires fits { Fits (prefix (λ d. enter d (saved_box saved.now d) (moment_of k)) (is_saved saved.now) 64) n (hall_of B.meaning Q.holds self.old) slip.old }
+        ensures { Wrote (prefix (λ d. enter d (saved_box saved.now d) (moment_of k)) (is_saved saved.now) 64) n (hall_of B.meaning Q.holds self.old) (hall_of B.meaning Q.holds self.new) slip.old slip.new result }
     {
         let mut end = n;
         for d in 0..64u8 {
@@ -107,8 +107,8 @@ impl<B: FlightBook, Q: EventQueue> Floor<B, Q> {
     /// A plan is filed: the entered craft that follow the one filed leave, the book changes, and they enter again.
     pub fn file(&mut self, c: u8, plan: Plan, k: Moment, slip: &mut [u32], n: usize) -> usize
         requires c { c < 64 }
-        requires fits { Fits (change (filing c (plan_of plan)) (moment_of k)) n (hall_of meaning holds self.old) slip.old }
-        ensures { Wrote (change (filing c (plan_of plan)) (moment_of k)) n (hall_of meaning holds self.old) (hall_of meaning holds self.new) slip.old slip.new result }
+        requires fits { Fits (change (filing c (plan_of plan)) (moment_of k)) n (hall_of B.meaning Q.holds self.old) slip.old }
+        ensures { Wrote (change (filing c (plan_of plan)) (moment_of k)) n (hall_of B.meaning Q.holds self.old) (hall_of B.meaning Q.holds self.new) slip.old slip.new result }
     {
         let saved = self.followers(c);
         let end = self.leave_all(&saved, slip, n);
@@ -127,8 +127,8 @@ impl<B: FlightBook, Q: EventQueue> Floor<B, Q> {
         n: usize,
     ) -> usize
         requires c { c < 64 }
-        requires fits { Fits (change (seating c level carrier) (moment_of k)) n (hall_of meaning holds self.old) slip.old }
-        ensures { Wrote (change (seating c level carrier) (moment_of k)) n (hall_of meaning holds self.old) (hall_of meaning holds self.new) slip.old slip.new result }
+        requires fits { Fits (change (seating c level carrier) (moment_of k)) n (hall_of B.meaning Q.holds self.old) slip.old }
+        ensures { Wrote (change (seating c level carrier) (moment_of k)) n (hall_of B.meaning Q.holds self.old) (hall_of B.meaning Q.holds self.new) slip.old slip.new result }
     {
         let saved = self.followers(c);
         let end = self.leave_all(&saved, slip, n);

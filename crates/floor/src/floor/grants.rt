@@ -22,8 +22,8 @@ impl<B: FlightBook, Q: EventQueue> Floor<B, Q> {
         n: usize,
     ) -> usize
         requires slot { slot < 12352 }
-        requires fits { Fits (grant slot (stored moment)) n (hall_of meaning holds self.old) slip.old }
-        ensures { Wrote (grant slot (stored moment)) n (hall_of meaning holds self.old) (hall_of meaning holds self.new) slip.old slip.new result }
+        requires fits { Fits (grant slot (stored moment)) n (hall_of B.meaning Q.holds self.old) slip.old }
+        ensures { Wrote (grant slot (stored moment)) n (hall_of B.meaning Q.holds self.old) (hall_of B.meaning Q.holds self.new) slip.old slip.new result }
     {
         let number = self.tables.grant(slot as usize);
         let _ = keep(&mut self.queue, slot, moment);
@@ -34,8 +34,8 @@ impl<B: FlightBook, Q: EventQueue> Floor<B, Q> {
     /// Takes a slot's certificate away.
     pub(super) fn take_away(&mut self, taken: Taken, slot: u16, slip: &mut [u32], n: usize) -> usize
         requires slot { slot < 12352 }
-        requires fits { Fits (take_away (line_of taken) slot) n (hall_of meaning holds self.old) slip.old }
-        ensures { Wrote (take_away (line_of taken) slot) n (hall_of meaning holds self.old) (hall_of meaning holds self.new) slip.old slip.new result }
+        requires fits { Fits (take_away (line_of taken) slot) n (hall_of B.meaning Q.holds self.old) slip.old }
+        ensures { Wrote (take_away (line_of taken) slot) n (hall_of B.meaning Q.holds self.old) (hall_of B.meaning Q.holds self.new) slip.old slip.new result }
     {
         let number = self.tables.clear(slot as usize);
         let _ = self.queue.remove(slot);

@@ -22,8 +22,8 @@ impl<B: FlightBook, Q: EventQueue> Floor<B, Q> {
     fn grant_leg(&mut self, c: u8, next: Option<u16>, slip: &mut [u32], n: usize) -> usize
         requires c { c < 64 }
         requires tick { MatchOption next (0 ≤ 0) (λ i. i ≤ 50000) }
-        requires fits { Fits (grant (leg_slot c) (at_break next)) n (hall_of meaning holds self.old) slip.old }
-        ensures { Wrote (grant (leg_slot c) (at_break next)) n (hall_of meaning holds self.old) (hall_of meaning holds self.new) slip.old slip.new result }
+        requires fits { Fits (grant (leg_slot c) (at_break next)) n (hall_of B.meaning Q.holds self.old) slip.old }
+        ensures { Wrote (grant (leg_slot c) (at_break next)) n (hall_of B.meaning Q.holds self.old) (hall_of B.meaning Q.holds self.new) slip.old slip.new result }
     {
         self.grant(leg_slot_of(c), break_moment(next), slip, n)
     }
@@ -31,8 +31,8 @@ impl<B: FlightBook, Q: EventQueue> Floor<B, Q> {
     /// The bits of a craft with every other entered craft, on axes x, y and z in turn.
     fn enter_axes(&mut self, c: u8, k: Moment, slip: &mut [u32], n: usize) -> usize
         requires c { c < 64 }
-        requires fits { Fits (on_axes (λ a. enters c (moment_of k) a (others c (hall_of meaning holds self.old)))) n (hall_of meaning holds self.old) slip.old }
-        ensures { Wrote (on_axes (λ a. enters c (moment_of k) a (others c (hall_of meaning holds self.old)))) n (hall_of meaning holds self.old) (hall_of meaning holds self.new) slip.old slip.new result }
+        requires fits { Fits (on_axes (λ a. enters c (moment_of k) a (others c (hall_of B.meaning Q.holds self.old)))) n (hall_of B.meaning Q.holds self.old) slip.old }
+        ensures { Wrote (on_axes (λ a. enters c (moment_of k) a (others c (hall_of B.meaning Q.holds self.old)))) n (hall_of B.meaning Q.holds self.old) (hall_of B.meaning Q.holds self.new) slip.old slip.new result }
     {
         let x = self.enter_bits(Axis::X, c, k, slip, n);
         let y = self.enter_bits(Axis::Y, c, k, slip, x);
@@ -42,8 +42,8 @@ impl<B: FlightBook, Q: EventQueue> Floor<B, Q> {
     /// Drops the bits of a craft with every other entered craft, on axes x, y and z in turn.
     fn drop_axes(&mut self, c: u8, slip: &mut [u32], n: usize) -> usize
         requires c { c < 64 }
-        requires fits { Fits (on_axes (λ a. drops c a (others c (hall_of meaning holds self.old)))) n (hall_of meaning holds self.old) slip.old }
-        ensures { Wrote (on_axes (λ a. drops c a (others c (hall_of meaning holds self.old)))) n (hall_of meaning holds self.old) (hall_of meaning holds self.new) slip.old slip.new result }
+        requires fits { Fits (on_axes (λ a. drops c a (others c (hall_of B.meaning Q.holds self.old)))) n (hall_of B.meaning Q.holds self.old) slip.old }
+        ensures { Wrote (on_axes (λ a. drops c a (others c (hall_of B.meaning Q.holds self.old)))) n (hall_of B.meaning Q.holds self.old) (hall_of B.meaning Q.holds self.new) slip.old slip.new result }
     {
         let x = self.drop_bits(Axis::X, c, slip, n);
         let y = self.drop_bits(Axis::Y, c, slip, x);
@@ -53,8 +53,8 @@ impl<B: FlightBook, Q: EventQueue> Floor<B, Q> {
     /// Withdraws and grants anew a craft's certificates, on axes x, y and z in turn.
     fn renew_axes(&mut self, c: u8, k: Moment, slip: &mut [u32], n: usize) -> usize
         requires c { c < 64 }
-        requires fits { Fits (on_axes (λ a. renews c (moment_of k) a (others c (hall_of meaning holds self.old)))) n (hall_of meaning holds self.old) slip.old }
-        ensures { Wrote (on_axes (λ a. renews c (moment_of k) a (others c (hall_of meaning holds self.old)))) n (hall_of meaning holds self.old) (hall_of meaning holds self.new) slip.old slip.new result }
+        requires fits { Fits (on_axes (λ a. renews c (moment_of k) a (others c (hall_of B.meaning Q.holds self.old)))) n (hall_of B.meaning Q.holds self.old) slip.old }
+        ensures { Wrote (on_axes (λ a. renews c (moment_of k) a (others c (hall_of B.meaning Q.holds self.old)))) n (hall_of B.meaning Q.holds self.old) (hall_of B.meaning Q.holds self.new) slip.old slip.new result }
     {
         let x = self.renew(Axis::X, c, k, slip, n);
         let y = self.renew(Axis::Y, c, k, slip, x);
@@ -72,8 +72,8 @@ impl<B: FlightBook, Q: EventQueue> Floor<B, Q> {
     ) -> usize
         requires c { c < 64 }
         requires tick { MatchOption next (0 ≤ 0) (λ i. i ≤ 50000) }
-        requires fits { Fits (reading (enters c (moment_of k)) c next) n (hall_of meaning holds self.old) slip.old }
-        ensures { Wrote (reading (enters c (moment_of k)) c next) n (hall_of meaning holds self.old) (hall_of meaning holds self.new) slip.old slip.new result }
+        requires fits { Fits (reading (enters c (moment_of k)) c next) n (hall_of B.meaning Q.holds self.old) slip.old }
+        ensures { Wrote (reading (enters c (moment_of k)) c next) n (hall_of B.meaning Q.holds self.old) (hall_of B.meaning Q.holds self.new) slip.old slip.new result }
     {
         let end = self.enter_axes(c, k, slip, n);
         self.grant_leg(c, next, slip, end)
@@ -90,8 +90,8 @@ impl<B: FlightBook, Q: EventQueue> Floor<B, Q> {
     ) -> usize
         requires c { c < 64 }
         requires tick { MatchOption next (0 ≤ 0) (λ i. i ≤ 50000) }
-        requires fits { Fits (reading (renews c (moment_of k)) c next) n (hall_of meaning holds self.old) slip.old }
-        ensures { Wrote (reading (renews c (moment_of k)) c next) n (hall_of meaning holds self.old) (hall_of meaning holds self.new) slip.old slip.new result }
+        requires fits { Fits (reading (renews c (moment_of k)) c next) n (hall_of B.meaning Q.holds self.old) slip.old }
+        ensures { Wrote (reading (renews c (moment_of k)) c next) n (hall_of B.meaning Q.holds self.old) (hall_of B.meaning Q.holds self.new) slip.old slip.new result }
     {
         let end = self.renew_axes(c, k, slip, n);
         self.grant_leg(c, next, slip, end)
@@ -100,8 +100,8 @@ impl<B: FlightBook, Q: EventQueue> Floor<B, Q> {
     /// A craft enters with its box: its leg is read, its bits are set and all its certificates granted.
     pub fn enter(&mut self, c: u8, half: HalfSizes, k: Moment, slip: &mut [u32], n: usize) -> usize
         requires c { c < 64 }
-        requires fits { Fits (enter c (box_of half) (moment_of k)) n (hall_of meaning holds self.old) slip.old }
-        ensures { Wrote (enter c (box_of half) (moment_of k)) n (hall_of meaning holds self.old) (hall_of meaning holds self.new) slip.old slip.new result }
+        requires fits { Fits (enter c (box_of half) (moment_of k)) n (hall_of B.meaning Q.holds self.old) slip.old }
+        ensures { Wrote (enter c (box_of half) (moment_of k)) n (hall_of B.meaning Q.holds self.old) (hall_of B.meaning Q.holds self.new) slip.old slip.new result }
     {
         let Ok(legs) = self.book.leg(c, k.time) else {
             return n;
@@ -114,8 +114,8 @@ impl<B: FlightBook, Q: EventQueue> Floor<B, Q> {
     /// A craft leaves: its bits are dropped and all its certificates withdrawn.
     pub fn leave(&mut self, c: u8, slip: &mut [u32], n: usize) -> usize
         requires c { c < 64 }
-        requires fits { Fits (leave c) n (hall_of meaning holds self.old) slip.old }
-        ensures { Wrote (leave c) n (hall_of meaning holds self.old) (hall_of meaning holds self.new) slip.old slip.new result }
+        requires fits { Fits (leave c) n (hall_of B.meaning Q.holds self.old) slip.old }
+        ensures { Wrote (leave c) n (hall_of B.meaning Q.holds self.old) (hall_of B.meaning Q.holds self.new) slip.old slip.new result }
     {
         let end = self.drop_axes(c, slip, n);
         let last = self.take_away(Taken::Withdrawn, leg_slot_of(c), slip, end);
@@ -126,8 +126,8 @@ impl<B: FlightBook, Q: EventQueue> Floor<B, Q> {
     /// A bit's certificate has fired: the bit changes, and its next certificate is granted.
     fn fire_bit(&mut self, slot: u16, k: Moment, slip: &mut [u32], n: usize) -> usize
         requires slot { slot < 12288 }
-        requires fits { Fits (fire_bit slot (moment_of k)) n (hall_of meaning holds self.old) slip.old }
-        ensures { Wrote (fire_bit slot (moment_of k)) n (hall_of meaning holds self.old) (hall_of meaning holds self.new) slip.old slip.new result }
+        requires fits { Fits (fire_bit slot (moment_of k)) n (hall_of B.meaning Q.holds self.old) slip.old }
+        ensures { Wrote (fire_bit slot (moment_of k)) n (hall_of B.meaning Q.holds self.old) (hall_of B.meaning Q.holds self.new) slip.old slip.new result }
     {
         let bit = self.tables.bit(slot as usize);
         self.tables.set_bit(slot as usize, !bit);
@@ -137,8 +137,8 @@ impl<B: FlightBook, Q: EventQueue> Floor<B, Q> {
     /// A leg certificate has fired: the craft's leg is read anew, and its certificates are granted anew.
     fn fire_leg(&mut self, c: u8, k: Moment, slip: &mut [u32], n: usize) -> usize
         requires c { c < 64 }
-        requires fits { Fits (fire_leg c (moment_of k)) n (hall_of meaning holds self.old) slip.old }
-        ensures { Wrote (fire_leg c (moment_of k)) n (hall_of meaning holds self.old) (hall_of meaning holds self.new) slip.old slip.new result }
+        requires fits { Fits (fire_leg c (moment_of k)) n (hall_of B.meaning Q.holds self.old) slip.old }
+        ensures { Wrote (fire_leg c (moment_of k)) n (hall_of B.meaning Q.holds self.old) (hall_of B.meaning Q.holds self.new) slip.old slip.new result }
     {
         let Ok(legs) = self.book.leg(c, k.time) else {
             return n;
@@ -150,8 +150,8 @@ impl<B: FlightBook, Q: EventQueue> Floor<B, Q> {
     /// Fires the certificate of a slot at its moment, which is then present.
     pub fn fire(&mut self, slot: u16, k: Moment, slip: &mut [u32], n: usize) -> usize
         requires slot { slot < 12352 }
-        requires fits { Fits (fire slot (moment_of k)) n (hall_of meaning holds self.old) slip.old }
-        ensures { Wrote (fire slot (moment_of k)) n (hall_of meaning holds self.old) (hall_of meaning holds self.new) slip.old slip.new result }
+        requires fits { Fits (fire slot (moment_of k)) n (hall_of B.meaning Q.holds self.old) slip.old }
+        ensures { Wrote (fire slot (moment_of k)) n (hall_of B.meaning Q.holds self.old) (hall_of B.meaning Q.holds self.new) slip.old slip.new result }
     {
         let end = self.take_away(Taken::Fired, slot, slip, n);
         if slot < 12288 {

@@ -37,7 +37,7 @@ fn is_own(carrier: Option<u8>, craft: u8) -> bool
 impl<B: FlightBook, Q: EventQueue> Hall<B, Q> {
     /// The first row of the table that fits a filing.
     fn refuses_file(&self, q: &Quiet, craft: u8, plan: &Plan, room: usize) -> Option<Refusal>
-        ensures { refused_by result ≡ refusal (changing (time_of q.now.at) (filing craft (plan_of plan.now)) room) (state_of meaning holds self.now) }
+        ensures { refused_by result ≡ refusal (changing (time_of q.now.at) (filing craft (plan_of plan.now)) room) (state_of B.meaning Q.holds self.now) }
     {
         if !self.knows(q) {
             return Some(Refusal::WrongClock);
@@ -69,7 +69,7 @@ impl<B: FlightBook, Q: EventQueue> Hall<B, Q> {
         plan: Plan,
         slip: &mut [u32],
     ) -> Result<usize, Refusal>
-        ensures { Wrote (changing (time_of q.now.at) (filing craft (plan_of plan)) (length slip.old)) (state_of meaning holds self.old) (state_of meaning holds self.new) (done_told result) slip.old slip.new (count_told result) }
+        ensures { Wrote (changing (time_of q.now.at) (filing craft (plan_of plan)) (length slip.old)) (state_of B.meaning Q.holds self.old) (state_of B.meaning Q.holds self.new) (done_told result) slip.old slip.new (count_told result) }
     {
         if let Some(e) = self.refuses_file(q, craft, &plan, slip.len()) {
             return Err(e);
@@ -86,7 +86,7 @@ impl<B: FlightBook, Q: EventQueue> Hall<B, Q> {
         carrier: Option<u8>,
         room: usize,
     ) -> Option<Refusal>
-        ensures { refused_by result ≡ refusal (changing (time_of q.now.at) (riding craft level carrier) room) (state_of meaning holds self.now) }
+        ensures { refused_by result ≡ refusal (changing (time_of q.now.at) (riding craft level carrier) room) (state_of B.meaning Q.holds self.now) }
     {
         if !self.knows(q) {
             return Some(Refusal::WrongClock);
@@ -119,7 +119,7 @@ impl<B: FlightBook, Q: EventQueue> Hall<B, Q> {
         carrier: Option<u8>,
         slip: &mut [u32],
     ) -> Result<usize, Refusal>
-        ensures { Wrote (changing (time_of q.now.at) (riding craft level carrier) (length slip.old)) (state_of meaning holds self.old) (state_of meaning holds self.new) (done_told result) slip.old slip.new (count_told result) }
+        ensures { Wrote (changing (time_of q.now.at) (riding craft level carrier) (length slip.old)) (state_of B.meaning Q.holds self.old) (state_of B.meaning Q.holds self.new) (done_told result) slip.old slip.new (count_told result) }
     {
         if let Some(e) = self.refuses_ride(q, craft, level, carrier, slip.len()) {
             return Err(e);

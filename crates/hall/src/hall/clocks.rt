@@ -15,7 +15,7 @@ use times::{Refusal, Time};
 impl<B: FlightBook, Q: EventQueue> Hall<B, Q> {
     /// Whether a quiet clock is the hall's.
     pub(super) fn knows(&self, q: &Quiet) -> bool
-        ensures { not_mine (state_of meaning holds self.now) (quiet_of q.now) ≡ not result }
+        ensures { not_mine (state_of B.meaning Q.holds self.now) (quiet_of q.now) ≡ not result }
     {
         match self.goal {
             Some(_) => false,
@@ -25,7 +25,7 @@ impl<B: FlightBook, Q: EventQueue> Hall<B, Q> {
 
     /// Whether a due clock is the hall's.
     pub(super) fn knows_due(&self, d: &Due) -> bool
-        ensures { not_mine (state_of meaning holds self.now) (due_of d.now) ≡ not result }
+        ensures { not_mine (state_of B.meaning Q.holds self.now) (due_of d.now) ≡ not result }
     {
         match self.goal {
             Some(goal) => d.at.same(self.time) && d.goal.same(goal),
@@ -36,7 +36,7 @@ impl<B: FlightBook, Q: EventQueue> Hall<B, Q> {
     /// Opens a hall over a book and an empty queue, at time 0; or hands both back. Refused, in this order: scale above 8, queue holds something.
     /// Its contract carries what the hall promises of every list of calls, which the contracts of the calls tie to this code, and a small show computed.
     pub fn open(book: B, queue: Q) -> Result<(Hall<B, Q>, Quiet), (B, Q, Refusal)>
-        ensures opening { Opening meaning holds book queue result }
+        ensures opening { Opening B.meaning Q.holds book queue result }
         ensures promise { Promise }
         ensures show { SmallShow }
     {

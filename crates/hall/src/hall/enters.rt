@@ -22,7 +22,7 @@ impl<B: FlightBook, Q: EventQueue> Hall<B, Q> {
         half: (u16, u16, u16),
         room: usize,
     ) -> Option<Refusal>
-        ensures { refused_by result ≡ refusal (changing (time_of q.now.at) (entering craft (sizes half.0 half.1 half.2)) room) (state_of meaning holds self.now) }
+        ensures { refused_by result ≡ refusal (changing (time_of q.now.at) (entering craft (sizes half.0 half.1 half.2)) room) (state_of B.meaning Q.holds self.now) }
     {
         if !self.knows(q) {
             return Some(Refusal::WrongClock);
@@ -54,7 +54,7 @@ impl<B: FlightBook, Q: EventQueue> Hall<B, Q> {
         half: (u16, u16, u16),
         slip: &mut [u32],
     ) -> Result<usize, Refusal>
-        ensures { Wrote (changing (time_of q.now.at) (entering craft (sizes half.0 half.1 half.2)) (length slip.old)) (state_of meaning holds self.old) (state_of meaning holds self.new) (done_told result) slip.old slip.new (count_told result) }
+        ensures { Wrote (changing (time_of q.now.at) (entering craft (sizes half.0 half.1 half.2)) (length slip.old)) (state_of B.meaning Q.holds self.old) (state_of B.meaning Q.holds self.new) (done_told result) slip.old slip.new (count_told result) }
     {
         if let Some(e) = self.refuses_enter(q, craft, half, slip.len()) {
             return Err(e);
@@ -67,7 +67,7 @@ impl<B: FlightBook, Q: EventQueue> Hall<B, Q> {
 
     /// The first row of the table that fits a leaving.
     fn refuses_leave(&self, q: &Quiet, craft: u8, room: usize) -> Option<Refusal>
-        ensures { refused_by result ≡ refusal (changing (time_of q.now.at) (leaving craft) room) (state_of meaning holds self.now) }
+        ensures { refused_by result ≡ refusal (changing (time_of q.now.at) (leaving craft) room) (state_of B.meaning Q.holds self.now) }
     {
         if !self.knows(q) {
             return Some(Refusal::WrongClock);
@@ -87,7 +87,7 @@ impl<B: FlightBook, Q: EventQueue> Hall<B, Q> {
     /// A craft leaves; returns how many lines were written.
     /// Refused, in this order: wrong clock, craft out of range, not entered, slip below 190 lines.
     pub fn leave(&mut self, q: &Quiet, craft: u8, slip: &mut [u32]) -> Result<usize, Refusal>
-        ensures { Wrote (changing (time_of q.now.at) (leaving craft) (length slip.old)) (state_of meaning holds self.old) (state_of meaning holds self.new) (done_told result) slip.old slip.new (count_told result) }
+        ensures { Wrote (changing (time_of q.now.at) (leaving craft) (length slip.old)) (state_of B.meaning Q.holds self.old) (state_of B.meaning Q.holds self.new) (done_told result) slip.old slip.new (count_told result) }
     {
         if let Some(e) = self.refuses_leave(q, craft, slip.len()) {
             return Err(e);

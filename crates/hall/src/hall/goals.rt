@@ -14,7 +14,7 @@ use times::{Refusal, Time};
 impl<B: FlightBook, Q: EventQueue> Hall<B, Q> {
     /// Sets a quiet clock forward to the goal n / d, in least terms; refused, in this order: wrong clock, no time, before the clock.
     pub fn set(&mut self, q: Quiet, n: u32, d: u16) -> Result<Due, (Quiet, Refusal)>
-        ensures performed { Performed (setting (time_of q.at) n d) (state_of meaning holds self.old) (state_of meaning holds self.new) (set_told result) }
+        ensures performed { Performed (setting (time_of q.at) n d) (state_of B.meaning Q.holds self.old) (state_of B.meaning Q.holds self.new) (set_told result) }
         ensures back { BackIfRefused q result }
     {
         if !self.knows(&q) {
@@ -33,7 +33,7 @@ impl<B: FlightBook, Q: EventQueue> Hall<B, Q> {
 
     /// Spends a due clock at its goal, where nothing more is due.
     pub fn rest(&mut self, d: Due) -> Result<Quiet, (Due, Refusal)>
-        ensures performed { Performed (resting (time_of d.at) (time_of d.goal)) (state_of meaning holds self.old) (state_of meaning holds self.new) (rest_told result) }
+        ensures performed { Performed (resting (time_of d.at) (time_of d.goal)) (state_of B.meaning Q.holds self.old) (state_of B.meaning Q.holds self.new) (rest_told result) }
         ensures back { BackIfRefused d result }
     {
         if !self.knows_due(&d) {

@@ -17,7 +17,7 @@ impl<B: FlightBook, Q: EventQueue> Hall<B, Q> {
     /// Whether the boxes of two entered craft touch at the clock's time.
     /// Refused, in this order: wrong clock, craft out of range, one craft named twice, a craft not entered.
     pub fn touching(&self, q: &Quiet, c: u8, d: u8) -> Result<bool, Refusal>
-        ensures { Performed (touching (time_of q.now.at) c d) (state_of meaning holds self.now) (state_of meaning holds self.now) (answer_told touches result) }
+        ensures { Performed (touching (time_of q.now.at) c d) (state_of B.meaning Q.holds self.now) (state_of B.meaning Q.holds self.now) (answer_told touches result) }
     {
         if !self.knows(q) {
             return Err(Refusal::WrongClock);
@@ -37,7 +37,7 @@ impl<B: FlightBook, Q: EventQueue> Hall<B, Q> {
     /// Writes the touching pairs, each as lower number × 64 + higher number, ascending, at the list's start, and returns how many.
     /// Refused, in this order: wrong clock, list too short.
     pub fn list(&self, q: &Quiet, list: &mut [u16]) -> Result<usize, Refusal>
-        ensures { Listed (listing (time_of q.now.at) (length list.old)) (state_of meaning holds self.now) (done_told result) list.old list.new (count_told result) }
+        ensures { Listed (listing (time_of q.now.at) (length list.old)) (state_of B.meaning Q.holds self.now) (done_told result) list.old list.new (count_told result) }
     {
         if !self.knows(q) {
             return Err(Refusal::WrongClock);
@@ -47,7 +47,7 @@ impl<B: FlightBook, Q: EventQueue> Hall<B, Q> {
 
     /// The certificate that stands in a slot: its number, and the moment at which it fails, or never; or none. Refused for a slot above the last.
     pub fn certificate(&self, slot: u16) -> Result<Option<(u32, Option<Moment>)>, Refusal>
-        ensures { Performed (asking slot) (state_of meaning holds self.now) (state_of meaning holds self.now) (answer_told (λ o. certificate (certificate_told o)) result) }
+        ensures { Performed (asking slot) (state_of B.meaning Q.holds self.now) (state_of B.meaning Q.holds self.now) (answer_told (λ o. certificate (certificate_told o)) result) }
     {
         if slot > 12351 {
             return Err(Refusal::SlotRange);

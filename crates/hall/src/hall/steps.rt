@@ -16,7 +16,7 @@ use times::Refusal;
 impl<B: FlightBook, Q: EventQueue> Hall<B, Q> {
     /// The first row of the table that fits a step.
     fn refuses_step(&self, d: &Due, room: usize) -> Option<Refusal>
-        ensures { refused_by result ≡ refusal (stepping (time_of d.now.at) (time_of d.now.goal) room) (state_of meaning holds self.now) }
+        ensures { refused_by result ≡ refusal (stepping (time_of d.now.at) (time_of d.now.goal) room) (state_of B.meaning Q.holds self.now) }
     {
         if !self.knows_due(d) {
             return Some(Refusal::WrongClock);
@@ -36,7 +36,7 @@ impl<B: FlightBook, Q: EventQueue> Hall<B, Q> {
     /// Fires what is due first, and tells of it.
     /// Refused, in this order: wrong clock, nothing due, slip below 380 lines, fewer than 190 numbers left.
     pub fn step(&mut self, d: &Due, slip: &mut [u32]) -> Result<Stepped, Refusal>
-        ensures { Wrote (stepping (time_of d.now.at) (time_of d.now.goal) (length slip.old)) (state_of meaning holds self.old) (state_of meaning holds self.new) (step_told result) slip.old slip.new (step_count result) }
+        ensures { Wrote (stepping (time_of d.now.at) (time_of d.now.goal) (length slip.old)) (state_of B.meaning Q.holds self.old) (state_of B.meaning Q.holds self.new) (step_told result) slip.old slip.new (step_count result) }
     {
         if let Some(e) = self.refuses_step(d, slip.len()) {
             return Err(e);
@@ -54,7 +54,7 @@ impl<B: FlightBook, Q: EventQueue> Hall<B, Q> {
         slip: &mut [u32],
         page: &mut [u8],
     ) -> Result<(Due, Ran), (Due, Refusal)>
-        ensures performed { Paged (running (time_of d.at) (time_of d.goal) (length slip.old) (length page.old)) (state_of meaning holds self.old) (state_of meaning holds self.new) (run_told result) slip.old slip.new (run_lines result) page.old page.new (run_bytes result) }
+        ensures performed { Paged (running (time_of d.at) (time_of d.goal) (length slip.old) (length page.old)) (state_of B.meaning Q.holds self.old) (state_of B.meaning Q.holds self.new) (run_told result) slip.old slip.new (run_lines result) page.old page.new (run_bytes result) }
         ensures back { Back d result }
     {
         if !self.knows_due(&d) {

@@ -19,12 +19,12 @@ invariant_of-result c =
     let f : SFits w32 c.args.p.a = search rules in
     let g : SFits w32 c.args.q.a = search rules in
     let h : SFits w32 c.args.p.v = search rules in
-    let k : SFits w32 c.args.q.v = search rules in (
-      gap_near c.args.p.a c.args.q.a c.args.p.down c.args.q.up f g c.args.p.small_down c.args.q.small_up
+    let k : SFits w32 c.args.q.v = search rules in record {
+      near = gap_near c.args.p.a c.args.q.a c.args.p.down c.args.q.up f g c.args.p.small_down c.args.q.small_up
           c.from-3.result c.from-4.result c.from.result c.from-2.result
-          (read c.from-3.result c.args.p.a f c.from-3.ensures) (read c.from-4.result c.args.q.a g c.from-4.ensures) c.from.ensures c.from-2.ensures,
-      (slope_slow c.args.p.v c.args.q.v h k c.from-5.result c.from-6.result (read c.from-5.result c.args.p.v h c.from-5.ensures) (read c.from-6.result c.args.q.v k c.from-6.ensures), tt),
-    )
+          (read c.from-3.result c.args.p.a f c.from-3.ensures) (read c.from-4.result c.args.q.a g c.from-4.ensures) c.from.ensures c.from-2.ensures;
+      slow = slope_slow c.args.p.v c.args.q.v h k c.from-5.result c.from-6.result (read c.from-5.result c.args.p.v h c.from-5.ensures) (read c.from-6.result c.args.q.v k c.from-6.ensures);
+    }
 
 pub returns : goal.returns
 returns c =

@@ -11,7 +11,7 @@ part_of-requires c =
     let p = r.plan in
     let q = route_right r in
     let g = leg_right_at p.count p.legs c.args.k p.end q.held c.requires q.legs in
-    let f : SFits w16 c.speed.result = record { sfits = c.speed.type-inv } in
+    let f : SFits w16 c.speed.result = record { sfits = c.speed.type_inv } in
     record {
       speed = subst (λ (v : ℤ). nat_abs v ≤ 1000) (sym (to_z-of_z w16 c.speed.result f ∙ c.speed.ensures)) (g.0.speeds (axis_of c.args.axis));
       order = omega (arith, c.until.ensures, g.0.order);
