@@ -9,7 +9,7 @@ use Rattle.console_read.proofs.legs.legs_table.Goals as goal
 pub returns-in_err-legs : goal.returns-in_err-legs
 returns-in_err-legs c =
     let ws = words c.args.text.now in
-    c.from-residual.ensures
+    c.from_residual.ensures
     ∙ sym (ap (λ (o : Option (List LegText)). and_then o (λ ls. Some (table ls))) (legs_stop ws c.loop-i.i c.args.n (sym c.in_err-legs.ensures) c.loop-i-test.true))
 
 pub loop-i-preserved : goal.loop-i-preserved

@@ -11,10 +11,10 @@ refresh-requires c = let l = bucket_below c.in-Some.moment in omega (arith, c.bu
 pub invariant_of-self : goal.invariant_of-self
 invariant_of-self c =
     let q = c.args.self.now in
-    let l = c.unlink.new.self in (
-      ∣ agree_after q.lists.moments l.moments q.lists.next l.next q.crown.nodes c.refresh.new.crown.nodes c.bucket_of.result (bucket c.in-Some.moment) (c.bucket_of.ensures ∙ bucket_is c.in-Some.moment) (agree_known q.lists.moments q.lists.next q.crown.nodes q.agree) c.unlink.ensures.others c.refresh.ensures ∣₁,
-      tt,
-    )
+    let l = c.unlink.new.self in
+    record {
+      agree = ∣ agree_after q.lists.moments l.moments q.lists.next l.next q.crown.nodes c.refresh.new.crown.nodes c.bucket_of.result (bucket c.in-Some.moment) (c.bucket_of.ensures ∙ bucket_is c.in-Some.moment) (agree_known q.lists.moments q.lists.next q.crown.nodes q.agree) c.unlink.ensures.others c.refresh.ensures ∣₁;
+    }
 
 pub returns-in-Some : goal.returns-in-Some
 returns-in-Some c =

@@ -11,7 +11,7 @@ refresh-requires c = let l = bucket_below c.args.moment in omega (arith, c.bucke
 pub invariant_of-self : goal.invariant_of-self
 invariant_of-self c =
     let q = c.args.self.now in
-    let l = c.link.new.self in (
-      ∣ agree_after q.lists.moments l.moments q.lists.next l.next q.crown.nodes c.refresh.new.crown.nodes c.bucket_of.result (bucket c.args.moment) (c.bucket_of.ensures ∙ bucket_is c.args.moment) (agree_known q.lists.moments q.lists.next q.crown.nodes q.agree) c.link.ensures.others c.refresh.ensures ∣₁,
-      tt,
-    )
+    let l = c.link.new.self in
+    record {
+      agree = ∣ agree_after q.lists.moments l.moments q.lists.next l.next q.crown.nodes c.refresh.new.crown.nodes c.bucket_of.result (bucket c.args.moment) (c.bucket_of.ensures ∙ bucket_is c.args.moment) (agree_known q.lists.moments q.lists.next q.crown.nodes q.agree) c.link.ensures.others c.refresh.ensures ∣₁;
+    }

@@ -6,10 +6,11 @@ use Rattle.calendar_queue.proofs.crown.Crown.set.Goals as goal
 
 pub invariant_of-self : goal.invariant_of-self
 invariant_of-self c =
-    let s = c.args.self.now in (
-      c.replay.auto.nodes ∙ length-set s.nodes _ _ ∙ s.sized,
-      (∣ c.replay.ensures.matched (leaf_set s.nodes (128 + c.from-leaf.result) c.args.found (omega arith) (matched_known s.nodes s.matched)) ∣₁, tt),
-    )
+    let s = c.args.self.now in
+    record {
+      sized = c.replay.auto.nodes ∙ length-set s.nodes _ _ ∙ s.sized;
+      matched = ∣ c.replay.ensures.matched (leaf_set s.nodes (128 + c.from-leaf.result) c.args.found (omega arith) (matched_known s.nodes s.matched)) ∣₁;
+    }
 
 pub returns : goal.returns
 returns c =

@@ -21,13 +21,12 @@ invariant_of-self c =
     let e = c.seek-place.ensures in
     let w = unlink_writes (λ (us : List (Option Moment)) (vs : List ℕ). Linked us vs) s.moments s.next None c.args.slot c.seek-place.result c.from.result c.from-2.result c.from-3.result
     c.from.ensures c.from-2.ensures c.from-3.ensures
-    (unlink_right s.moments s.next c.args.slot c.seek-place.result m s.held s.placed (linked_known s.moments s.next s.linked) c.requires.inside e.stands e.opens e.last c.requires.full) in (
-      length-set s.moments _ _ ∙ s.held,
-      (
-        length-set s.next _ _ ∙ s.placed,
-        (∣ w ∣₁, tt),
-      ),
-    )
+    (unlink_right s.moments s.next c.args.slot c.seek-place.result m s.held s.placed (linked_known s.moments s.next s.linked) c.requires.inside e.stands e.opens e.last c.requires.full) in
+    record {
+      held = length-set s.moments _ _ ∙ s.held;
+      placed = length-set s.next _ _ ∙ s.placed;
+      linked = ∣ w ∣₁;
+    }
 
 pub returns : goal.returns
 returns c =

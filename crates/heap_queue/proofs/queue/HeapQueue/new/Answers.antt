@@ -17,25 +17,16 @@ nowhere t e k = ap (λ l. get_or l k 65535) e ∙ getD_same 12352 65535 k
 pub invariant_of-result : goal.invariant_of-result
 invariant_of-result c =
     let t = c.new.result in
-    let e = c.new.ensures in (
-      refl,
-      (
-        omega (arith, e.len),
-        (
-          (λ i l. absurd (omega (arith, e.len))),
-          (
-            (λ i l. absurd (omega (arith, e.len))),
-            (
-              (λ k l h. absurd (h (nowhere t e.place k))),
-              (
-                (λ k l h. absurd (h (nowhere t e.place k))),
-                ((λ k p l. absurd (omega (arith, e.len))), tt),
-              ),
-            ),
-          ),
-        ),
-      ),
-    )
+    let e = c.new.ensures in
+    record {
+      long = refl;
+      room = omega (arith, e.len);
+      slots = λ i l. absurd (omega (arith, e.len));
+      places = λ i l. absurd (omega (arith, e.len));
+      within = λ k l h. absurd (h (nowhere t e.place k));
+      found = λ k l h. absurd (h (nowhere t e.place k));
+      order = λ k p l. absurd (omega (arith, e.len));
+    }
 
 pub returns : goal.returns
 returns c k = held_none c.new.result (stamp_at (replicate 12352 c.at.result)) k (eq-eqb _ 65535 (nowhere c.new.result c.new.ensures.place k))

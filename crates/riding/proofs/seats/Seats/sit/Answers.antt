@@ -5,4 +5,4 @@ use Rattle.riding.proofs.seats.Seats.sit.Goals as goal
 pub invariant_of-self : goal.invariant_of-self
 invariant_of-self c =
     let s = c.args.self.now in
-    (length-set s.table c.args.craft c.args.carrier ∙ s.size, (seated_set s.table c.args.craft c.args.carrier c.in_default.ensures s.seated, tt))
+    record { size = length-set s.table c.args.craft c.args.carrier ∙ s.size; seated = seated_set s.table c.args.craft c.args.carrier c.in_default.ensures s.seated }

@@ -6,4 +6,9 @@ pub invariant_of-self : goal.invariant_of-self
 invariant_of-self c =
     let t = c.args.self.now in
     let w : c.args.slot < length t.numbers = omega arith in
-    (search rules, (t.small, (omega arith, (granted_set t.numbers c.args.slot (t.last + 1) (t.last + 1) w (omega arith) (granted_up t.numbers t.last (t.last + 1) (omega arith) t.granted), tt))))
+    record {
+      sizes = search rules;
+      small = t.small;
+      few = omega arith;
+      granted = granted_set t.numbers c.args.slot (t.last + 1) (t.last + 1) w (omega arith) (granted_up t.numbers t.last (t.last + 1) (omega arith) t.granted);
+    }

@@ -6,7 +6,12 @@ use Rattle.tables.proofs.Places.{sized_none, granted_none, table_none, empty_is}
 use Rattle.tables.proofs.tables.Tables.new.Goals as goal
 
 pub invariant_of-result : goal.invariant_of-result
-invariant_of-result c = ((length-replicate {A = Option CraftRecord} 64 None, length-replicate 12288 false, length-replicate {A = ℕ} 12352 0), (sized_none 64, (omega arith, (granted_none 12352 0, tt))))
+invariant_of-result c = record {
+  sizes = (length-replicate {A = Option CraftRecord} 64 None, length-replicate 12288 false, length-replicate {A = ℕ} 12352 0);
+  small = sized_none 64;
+  few = omega arith;
+  granted = granted_none 12352 0;
+}
 
 pub returns : goal.returns
 returns c = empty_is _ _ _ (table_none record_in 64 None) (table_none (λ (b : Bool). b) 12288 false) (table_none (λ (n : ℕ). n) 12352 0)

@@ -6,4 +6,4 @@ pub invariant_of-self : goal.invariant_of-self
 invariant_of-self c =
     let t = c.args.self.now in
     let w : c.args.c < length t.craft = omega arith in
-    (search rules, (sized_set t.craft c.args.c c.args.craft w c.requires.sized t.small, (t.few, (t.granted, tt))))
+    record { sizes = search rules; small = sized_set t.craft c.args.c c.args.craft w c.requires.sized t.small; few = t.few; granted = t.granted }

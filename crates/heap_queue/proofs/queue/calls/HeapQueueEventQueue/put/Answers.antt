@@ -18,10 +18,16 @@ settle-requires c =
 pub invariant_of-self : goal.invariant_of-self
 invariant_of-self c =
     let q = c.args.self.now in
-    let e = c.settle.ensures in (
-      length-set q.moments c.args.slot c.args.moment ∙ q.long,
-      (e.index.0, (e.index.1, (e.index.2, (e.index.3, (e.index.4, (e.order, tt)))))),
-    )
+    let e = c.settle.ensures in
+    record {
+      long = length-set q.moments c.args.slot c.args.moment ∙ q.long;
+      room = e.index.0;
+      slots = e.index.1;
+      places = e.index.2;
+      within = e.index.3;
+      found = e.index.4;
+      order = e.order;
+    }
 
 pub returns : goal.returns
 returns c =

@@ -13,10 +13,16 @@ withdraw-requires c =
 pub invariant_of-self : goal.invariant_of-self
 invariant_of-self c =
     let q = c.args.self.now in
-    let e = c.withdraw.ensures in (
-      q.long,
-      (e.index.0, (e.index.1, (e.index.2, (e.index.3, (e.index.4, (e.order, tt)))))),
-    )
+    let e = c.withdraw.ensures in
+    record {
+      long = q.long;
+      room = e.index.0;
+      slots = e.index.1;
+      places = e.index.2;
+      within = e.index.3;
+      found = e.index.4;
+      order = e.order;
+    }
 
 pub returns : goal.returns
 returns c =
