@@ -31,8 +31,8 @@ bounds-self-from c =
     omega arith
 
 -- the turn's step
-gone-on : (c : goal.After-place·1) → Step (table c.args.self.now.moments) (bucket c.args.wanted.moment) c.loop-wanted.place (links c.args.self.now.next c.from.result) c.args.wanted.slot c.args.wanted.moment
-gone-on c =
+gone_on : (c : goal.After-place-1) → Step (table c.args.self.now.moments) (bucket c.args.wanted.moment) c.loop-wanted.place (links c.args.self.now.next c.from.result) c.args.wanted.slot c.args.wanted.moment
+gone_on c =
     let s = c.args.self.now in
     let t = table s.moments in
     let m = c.args.wanted.moment in
@@ -42,7 +42,7 @@ gone-on c =
     (step t (links s.next) (bucket m) c.loop-wanted.place c.args.wanted.slot m (table_bounded s.moments s.held) (linked_known s.moments s.next s.linked) (bucket_below m) c.loop-wanted.invariant.0 c.loop-wanted-test.ensures)
 
 pub loop-wanted-smaller : goal.loop-wanted-smaller
-loop-wanted-smaller c = (gone-on c).less
+loop-wanted-smaller c = (gone_on c).less
 
 pub loop-wanted-preserved : goal.loop-wanted-preserved
-loop-wanted-preserved c = ((gone-on c).stands, (gone-on c).opens)
+loop-wanted-preserved c = ((gone_on c).stands, (gone_on c).opens)
