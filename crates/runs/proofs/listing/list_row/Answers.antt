@@ -6,7 +6,7 @@ use Rattle.floor.specs.Of.{hall_of}
 use Rattle.runs.specs.Listing.{row_with}
 use Rattle.runs.proofs.Rows.{row_room, row_miss, row_put, long_hit, all_below}
 use Rattle.runs.proofs.listing.list_row.Goals as goal
-use Rattle.runs.proofs.listing.list_row.Goals.{then-is-listed, else-is-listed}
+use Rattle.runs.proofs.listing.list_row.Goals.{then-is_listed, else-is_listed}
 
 pub loop-d-init : goal.loop-d-init
 loop-d-init g c = (sym (add-zero c.args.n), sym (written_none c.args.n c.args.list.now))
@@ -36,12 +36,12 @@ pub loop-d-preserved : goal.loop-d-preserved
 loop-d-preserved g c =
     let m : Hall = hall_of g.B.FlightBook.meaning g.Q.EventQueue.holds c.args.floor.now in
     elim c.if-is_listed.branch [
-      | then-is-listed w ↦
+      | then-is_listed w ↦
           let e = sym c.is_listed.ensures ∙ w.if-is_listed.true in (
             w.end-is ∙ ap (λ (x : ℕ). x + 1) c.loop-d.invariant.0 ∙ add_assoc c.args.n _ 1 ∙ ap (λ (x : ℕ). c.args.n + x) (sym (long_hit m c.args.c c.loop-d.d e)),
             w.list-is ∙ ap (set c.loop-d.list c.loop-d.end) w.entry_of.ensures ∙ row_put m c.args.c c.args.n c.loop-d.end c.loop-d.d c.loop-d.list c.args.list.now e (omega arith) c.requires.room c.loop-d.invariant.0 c.loop-d.invariant.1,
           )
-      | else-is-listed w ↦
+      | else-is_listed w ↦
           let e = row_miss m c.args.c c.loop-d.d (sym c.is_listed.ensures ∙ w.if-is_listed.false) in (
             w.end-is ∙ c.loop-d.invariant.0 ∙ ap (λ (xs : List ℕ). c.args.n + length xs) (sym e),
             w.list-is ∙ c.loop-d.invariant.1 ∙ ap (λ (xs : List ℕ). written c.args.n xs c.args.list.now) (sym e),
