@@ -13,7 +13,7 @@ pub fn quiet(out: &mut String, word: &str, time: Time) -> fmt::Result
 {
     write!(out, "{word}: quiet ")?;
     put_time(out, time)?;
-    write!(out, "\n")
+    Ok(write!(out, "\n")?)
 }
 
 /// `set: due S to `.
@@ -22,7 +22,7 @@ fn due_from(out: &mut String, from: Time) -> fmt::Result
 {
     write!(out, "set: due ")?;
     put_time(out, from)?;
-    write!(out, " to ")
+    Ok(write!(out, " to ")?)
 }
 
 /// `set: due S to G`.
@@ -31,26 +31,26 @@ pub fn due(out: &mut String, from: Time, to: Time) -> fmt::Result
 {
     due_from(out, from)?;
     put_time(out, to)?;
-    write!(out, "\n")
+    Ok(write!(out, "\n")?)
 }
 
 /// `room: SLIP PAGE LIST`.
 pub fn room(out: &mut String, slip: u32, page: u32, list: u32) -> fmt::Result
     ensures { OnOk result (string_bytes out.new ≡ string_bytes out.old ++ (codes "room: " ++ (decimal slip ++ (codes " " ++ (decimal page ++ (codes " " ++ (decimal list ++ codes "\n"))))))) }
 {
-    write!(out, "room: {slip} {page} {list}\n")
+    Ok(write!(out, "room: {slip} {page} {list}\n")?)
 }
 
 /// `cues: K`.
 pub fn cues(out: &mut String, count: usize) -> fmt::Result
     ensures { OnOk result (string_bytes out.new ≡ string_bytes out.old ++ (codes "cues: " ++ (decimal count ++ codes "\n"))) }
 {
-    write!(out, "cues: {count}\n")
+    Ok(write!(out, "cues: {count}\n")?)
 }
 
 /// `  TICK C`.
 pub fn cue(out: &mut String, tick: u16, craft: u8) -> fmt::Result
     ensures { OnOk result (string_bytes out.new ≡ string_bytes out.old ++ (codes "  " ++ (decimal tick ++ (codes " " ++ (decimal craft ++ codes "\n"))))) }
 {
-    write!(out, "  {tick} {craft}\n")
+    Ok(write!(out, "  {tick} {craft}\n")?)
 }

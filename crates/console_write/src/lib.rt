@@ -19,9 +19,9 @@ pub fn fraction(out: &mut String, n: u32, d: u16) -> fmt::Result
     ensures { OnOk result (string_bytes out.new ≡ string_bytes out.old ++ time_text n d) }
 {
     if d == 1 {
-        return write!(out, "{n}");
+        return Ok(write!(out, "{n}")?);
     }
-    write!(out, "{n}/{d}")
+    Ok(write!(out, "{n}/{d}")?)
 }
 
 /// A time in least terms.
@@ -35,5 +35,5 @@ pub fn put_time(out: &mut String, time: Time) -> fmt::Result
 pub fn cannot_read(out: &mut String, line: u64) -> fmt::Result
     ensures { OnOk result (string_bytes out.new ≡ string_bytes out.old ++ (codes "line " ++ (decimal line ++ codes ": cannot read\n"))) }
 {
-    write!(out, "line {line}: cannot read\n")
+    Ok(write!(out, "line {line}: cannot read\n")?)
 }

@@ -36,7 +36,7 @@ fn record_line(out: &mut String, record: Record) -> fmt::Result {
         Kind::Parting => write!(out, "  parting {lower} {higher} at ")?,
     }
     fraction(out, record.n, record.d)?;
-    write!(out, "\n")
+    Ok(write!(out, "\n")?)
 }
 
 /// A line for each record of the page.

@@ -26,7 +26,7 @@ fn some_listed(out: &mut String, entries: &[u16]) -> fmt::Result
 {
     write!(out, "list:")?;
     pairs(out, entries)?;
-    write!(out, "\n")
+    Ok(write!(out, "\n")?)
 }
 
 /// `list: A-B A-B ..`, or `list: none`.
@@ -45,7 +45,7 @@ pub fn listed(out: &mut String, entries: &[u16]) -> fmt::Result
 fn side_number(out: &mut String, number: u8) -> fmt::Result
     ensures { OnOk result (string_bytes out.new ≡ string_bytes out.old ++ (codes " side " ++ (decimal number ++ codes "\n"))) }
 {
-    write!(out, " side {number}\n")
+    Ok(write!(out, " side {number}\n")?)
 }
 
 /// ` side 1` or ` side 0`.
@@ -62,7 +62,7 @@ fn side(out: &mut String, after: bool) -> fmt::Result
 fn standing_number(out: &mut String, number: u32) -> fmt::Result
     ensures { OnOk result (string_bytes out.new ≡ string_bytes out.old ++ (codes "certificate: " ++ (decimal number ++ codes " at "))) }
 {
-    write!(out, "certificate: {number} at ")
+    Ok(write!(out, "certificate: {number} at ")?)
 }
 
 /// `certificate: NUMBER at TIME side S`: S is 1 just after the time.
@@ -78,7 +78,7 @@ fn standing(out: &mut String, number: u32, moment: Moment) -> fmt::Result
 fn never(out: &mut String, number: u32) -> fmt::Result
     ensures { OnOk result (string_bytes out.new ≡ certificate_after (string_bytes out.old) number None) }
 {
-    write!(out, "certificate: {number} never\n")
+    Ok(write!(out, "certificate: {number} never\n")?)
 }
 
 /// `certificate: NUMBER at TIME side S`, or `certificate: NUMBER never`.
@@ -95,28 +95,28 @@ pub fn certificate(out: &mut String, number: u32, when: Option<Moment>) -> fmt::
 pub fn no_certificate(out: &mut String) -> fmt::Result
     ensures { OnOk result (string_bytes out.new ≡ string_bytes out.old ++ codes "certificate: none\n") }
 {
-    write!(out, "certificate: none\n")
+    Ok(write!(out, "certificate: none\n")?)
 }
 
 /// `A V; `.
 fn axis(out: &mut String, a: i32, v: i32) -> fmt::Result
     ensures { OnOk result (string_bytes out.new ≡ string_bytes out.old ++ axis_text a v) }
 {
-    write!(out, "{a} {v}; ")
+    Ok(write!(out, "{a} {v}; ")?)
 }
 
 /// `break B`.
 fn break_at(out: &mut String, tick: u16) -> fmt::Result
     ensures { OnOk result (string_bytes out.new ≡ string_bytes out.old ++ break_text (Some tick)) }
 {
-    write!(out, "break {tick}\n")
+    Ok(write!(out, "break {tick}\n")?)
 }
 
 /// `break none`.
 fn no_break(out: &mut String) -> fmt::Result
     ensures { OnOk result (string_bytes out.new ≡ string_bytes out.old ++ break_text None) }
 {
-    write!(out, "break none\n")
+    Ok(write!(out, "break none\n")?)
 }
 
 /// `break B` or `break none`.

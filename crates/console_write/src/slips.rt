@@ -26,7 +26,7 @@ pub fn changed(out: &mut String, word: &str, slip: &[u32]) -> fmt::Result
 {
     write!(out, "{word}: ok; ")?;
     lines(out, slip)?;
-    write!(out, "\n")
+    Ok(write!(out, "\n")?)
 }
 
 /// The word of a report's kind.
@@ -44,21 +44,21 @@ fn pair_told(out: &mut String, kind: Kind, lower: u8, higher: u8) -> fmt::Result
     ensures { OnOk result (string_bytes out.new ≡ string_bytes out.old ++ news_text (Some (kind, lower, higher))) }
 {
     let word = kind_word(kind);
-    write!(out, "{word} {lower} {higher}; ")
+    Ok(write!(out, "{word} {lower} {higher}; ")?)
 }
 
 /// `neither; `.
 fn neither(out: &mut String) -> fmt::Result
     ensures { OnOk result (string_bytes out.new ≡ string_bytes out.old ++ news_text None) }
 {
-    write!(out, "neither; ")
+    Ok(write!(out, "neither; ")?)
 }
 
 /// `step: fired NUMBER at `.
 fn fired_number(out: &mut String, number: u32) -> fmt::Result
     ensures { OnOk result (string_bytes out.new ≡ string_bytes out.old ++ (codes "step: fired " ++ (decimal number ++ codes " at "))) }
 {
-    write!(out, "step: fired {number} at ")
+    Ok(write!(out, "step: fired {number} at ")?)
 }
 
 /// `step: fired NUMBER at TIME; `.
@@ -67,7 +67,7 @@ fn fired_at(out: &mut String, number: u32, time: Time) -> fmt::Result
 {
     fired_number(out, number)?;
     put_time(out, time)?;
-    write!(out, "; ")
+    Ok(write!(out, "; ")?)
 }
 
 /// What a step told: two craft that met or parted, the lower first, or neither.
@@ -93,5 +93,5 @@ pub fn fired(
     fired_at(out, number, time)?;
     told(out, news)?;
     lines(out, slip)?;
-    write!(out, "\n")
+    Ok(write!(out, "\n")?)
 }

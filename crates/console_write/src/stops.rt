@@ -9,7 +9,7 @@ use std::fmt;
 pub fn said(out: &mut String, word: &str, text: &str) -> fmt::Result
     ensures { OnOk result (string_bytes out.new ≡ string_bytes out.old ++ (word.now ++ (codes ": " ++ (text.now ++ codes "\n")))) }
 {
-    write!(out, "{word}: {text}\n")
+    Ok(write!(out, "{word}: {text}\n")?)
 }
 
 /// Why a command is not carried out.
@@ -28,7 +28,7 @@ pub fn stop_words(stop: Stop) -> &'static str
 pub fn refused(out: &mut String, word: &str, number: u8) -> fmt::Result
     ensures { OnOk result (string_bytes out.new ≡ string_bytes out.old ++ (word.now ++ (codes ": refused " ++ (decimal number ++ codes "\n")))) }
 {
-    write!(out, "{word}: refused {number}\n")
+    Ok(write!(out, "{word}: refused {number}\n")?)
 }
 
 /// `WORD: yes` or `WORD: no`.
