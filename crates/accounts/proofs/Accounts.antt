@@ -1,18 +1,18 @@
 -- The accounts hold of every list of calls.
-use Rattle.std.proofs.Common.{◌≡◌, ℕ, zero, suc, ◌+◌, ◌-◌, ◌*◌, ◌/◌, ◌%◌, ◌<◌, ◌≤◌, Bool, true, false, cond, ◌&&◌, eqb, ltb, ◌⊎◌, ◌↔◌, List, [], ◌∷◌, ◌++◌, Some, None, Option, sym, refl, ap, ◌∙◌, subst, inl, inr, arith, ltb-false, ltb-true, le-ltb, lt-ltb, ne_eqb, eqb-true}
+use Rattle.std.proofs.Common.{◌≡◌, ℕ, zero, suc, ◌-◌, ◌/◌, ◌%◌, ◌<◌, ◌≤◌, Bool, true, false, cond, ◌&&◌, eqb, ltb, ◌⊎◌, List, [], ◌∷◌, Some, None, Option, sym, refl, ap, ◌∙◌, inl, inr, arith, ltb-false, ltb-true, le-ltb, lt-ltb, ne_eqb}
 use mathlib.Core.List.Memᴰ
 use borrow.Author.Tests.{eqb-false, both_ways}
 use Rattle.rules.specs.Basics.{◌∈◌, InTurn}
 use Rattle.rules.specs.Stamps.{Stamp}
 use Rattle.rules.specs.Books.{Book}
 use Rattle.rules.specs.Boxes.{Box}
-use Rattle.rules.specs.Slots.{slot, leg_slot}
+use Rattle.rules.specs.Slots.{leg_slot}
 use Rattle.model.specs.Halls.{Hall, State, Certificate, opened, certificate_in, in_hall}
-use Rattle.model.specs.Moves.{granted, fired, withdrawn, axis_of, lower_of, higher_of}
+use Rattle.model.specs.Moves.{fired, withdrawn, axis_of, lower_of, higher_of}
 use Rattle.model.specs.Calls.{Call, asking, certificate, accepted}
 use Rattle.model.specs.Refusals.{refusal}
 use Rattle.model.specs.Performing.{unless, perform}
-use Rattle.model.specs.Histories.{after, events, lines_told}
+use Rattle.model.specs.Histories.{after, lines_told}
 use Rattle.model.specs.Statement.{story, Tells, TellsNumber, IsIn, OfEntered, ExactlyOne}
 use Rattle.accounts.specs.Laws.{AccountsHold}
 use Rattle.accounts.proofs.Ledgers.{ledger, Told, Turn}

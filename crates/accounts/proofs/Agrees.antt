@@ -1,7 +1,6 @@
 -- What a history tells agrees with the state: the clock, the book, and the entered craft with their boxes.
-use Rattle.std.proofs.Common.{◌≡◌, ℕ, zero, suc, ◌-◌, ◌<◌, ◌≤◌, Bool, true, false, cond, not, ◌||◌, eqb, ltb, ◌⊎◌, List, [], ◌∷◌, ◌++◌, is_some, Some, None, Option, sym, refl, ap, ◌∙◌, subst, inl, inr, arith, ltb-false, ltb-true, le-ltb, eqb-true}
+use Rattle.std.proofs.Common.{◌≡◌, ℕ, zero, suc, ◌-◌, ◌≤◌, Bool, true, false, cond, not, ◌||◌, eqb, ltb, ◌⊎◌, List, [], ◌∷◌, ◌++◌, is_some, Some, None, Option, sym, refl, ap, ◌∙◌, inl, inr, arith, ltb-false, le-ltb, eqb-true}
 use mathlib.Core.List.Memᴰ
-use borrow.Author.Tests.{eqb-false}
 use Rattle.rules.specs.Basics.{◌∈◌, put, the}
 use Rattle.rules.specs.Fractions.{Fraction}
 use Rattle.rules.specs.Stamps.{Stamp, at}
@@ -10,16 +9,16 @@ use Rattle.rules.specs.Books.{Book, BookChange, changed, changed_by}
 use Rattle.rules.specs.Boxes.{Box}
 use Rattle.rules.specs.Slots.{slot}
 use Rattle.model.specs.Halls.{Craft, Hall, State, Clock, opened, with_book, in_hall, others, next_due, left}
-use Rattle.model.specs.Moves.{Out, then, each, on_axes, withdrawn, fired, take_away, grant_bit, enter_bit, drop_bit, grant_leg, read_leg, nobody, craft_of, enter, leave, craft_set, followers, come_back, change, renew, fire_leg, fire_kind, fire}
-use Rattle.model.specs.Calls.{Change, entering, leaving, booking, Call, changing, setting, stepping, running, resting, touching, listing, asking, accepted, refused}
-use Rattle.model.specs.Refusals.{rows, refusal}
+use Rattle.model.specs.Moves.{Out, then, each, on_axes, withdrawn, fired, take_away, grant_bit, enter_bit, drop_bit, read_leg, nobody, craft_of, enter, leave, craft_set, followers, come_back, change, renew, fire_leg, fire_kind, fire}
+use Rattle.model.specs.Calls.{Change, entering, leaving, booking, Call, changing, setting, stepping, running, resting, touching, listing, asking}
+use Rattle.model.specs.Refusals.{refusal}
 use Rattle.model.specs.Runs.{run_in, run_on, ending}
 use Rattle.model.specs.Performing.{make, unless, stepping_to, carried_out, perform}
 use Rattle.model.specs.Histories.{events, after, change_of, if_accepted, changes, book_changes, book_now, boxes_with, boxes_from, boxes_now, clock_given, clock_from, clock_now}
 use Rattle.model.specs.Statement.{story}
 use Rattle.accounts.specs.Laws.{box_in, boxes, HistoriesAgree}
 use Rattle.accounts.proofs.Puts.{put_here, put_other, same_or_not}
-use Rattle.accounts.proofs.Frames.{enter_craft, leave_craft, fire_leg_craft, SomeEntered, followers_entered}
+use Rattle.accounts.proofs.Frames.{enter_craft, leave_craft, fire_leg_craft, followers_entered}
 use Rattle.accounts.proofs.Counts.{SomeOutside, outside_next, followers_outside}
 use Rattle.accounts.proofs.Sound.{wanted_leg, queued_wanted, Sound, Stands, Due, fire_stands, unfit, perform_stands, opened_stands, next_holds}
 

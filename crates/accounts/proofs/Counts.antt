@@ -1,18 +1,17 @@
 -- The lines that each move writes and the numbers that it grants, counted.
-use Rattle.std.proofs.Common.{◌≡◌, ℕ, zero, suc, ◌+◌, ◌-◌, ◌*◌, ◌<◌, ◌≤◌, Bool, true, false, cond, not, ◌&&◌, eqb, ltb, ◌⊎◌, List, [], ◌∷◌, ◌++◌, length, Some, None, sym, refl, ap, ◌∙◌, subst, inl, inr, arith, length-append, ltb-false, eq-eqb, ne_eqb, eqb-true}
+use Rattle.std.proofs.Common.{◌≡◌, ℕ, zero, suc, ◌+◌, ◌-◌, ◌*◌, ◌<◌, ◌≤◌, Bool, true, false, cond, not, ◌&&◌, eqb, ltb, ◌⊎◌, List, [], ◌∷◌, ◌++◌, length, None, sym, refl, ap, ◌∙◌, inl, inr, arith, length-append, ltb-false, eq-eqb, ne_eqb}
 use mathlib.Core.Bool.{and-true, and-false}
 use mathlib.Core.List.Memᴰ
-use borrow.Author.Tests.{eqb-false}
 use Rattle.rules.specs.Basics.{◌∈◌, those, below, put}
 use Rattle.rules.specs.Stamps.{Stamp}
 use Rattle.rules.specs.Paths.{Axis, X, Y, Z}
 use Rattle.rules.specs.Books.{BookChange, changed}
 use Rattle.rules.specs.Boxes.{Box}
 use Rattle.rules.specs.Slots.{slot, leg_slot}
-use Rattle.model.specs.Halls.{Hall, all_craft, in_hall, entered, others, with_book, with_craft, with_bit}
-use Rattle.model.specs.Moves.{Out, silent, then, each, on_axes, withdrawn, fired, grant, take_away, grant_bit, enter_bit, drop_bit, grant_leg, read_leg, craft_of, enter, leave, craft_set, followers, come_back, change, fire_bit, renew, fire_leg, fire_kind, fire}
+use Rattle.model.specs.Halls.{Hall, all_craft, in_hall, entered, others, with_book, with_craft}
+use Rattle.model.specs.Moves.{Out, silent, then, each, on_axes, withdrawn, fired, take_away, grant_bit, enter_bit, drop_bit, grant_leg, read_leg, craft_of, enter, leave, craft_set, followers, come_back, renew, fire_leg, fire_kind}
 use Rattle.accounts.specs.Bounds.{Within, EnterWithin, LeaveWithin, ChangeWithin, FireWithin}
-use Rattle.accounts.proofs.Puts.{put_here, put_other, same_or_not, those_append, in_below}
+use Rattle.accounts.proofs.Puts.{put_here, put_other, same_or_not, those_append}
 use Rattle.accounts.proofs.Slotted.{Apart}
 use Rattle.accounts.proofs.Frames.{alike, put_as_was, enter_in, leave_in, all_out, SomeEntered, followers_entered}
 

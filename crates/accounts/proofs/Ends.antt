@@ -1,13 +1,12 @@
 -- A run ends: each step grants a number, so its count of steps never runs out; and what it writes fits.
-use Rattle.std.proofs.Common.{◌≡◌, ℕ, zero, suc, ◌+◌, ◌-◌, ◌<◌, ◌≤◌, Bool, true, false, cond, not, ◌||◌, ltb, List, [], ◌∷◌, ◌++◌, length, is_some, Some, None, Option, sym, refl, ap, ◌∙◌, subst, arith, length-append, ltb-false}
-use Rattle.rules.specs.Basics.{first_fit}
+use Rattle.std.proofs.Common.{◌≡◌, ℕ, zero, suc, ◌+◌, ◌-◌, ◌<◌, ◌≤◌, Bool, true, false, cond, not, ◌||◌, ltb, [], ◌∷◌, length, is_some, Some, None, Option, sym, refl, ap, ◌∙◌, arith, length-append, ltb-false}
 use Rattle.rules.specs.Fractions.{Fraction}
 use Rattle.rules.specs.Stamps.{Stamp}
 use Rattle.rules.specs.Pages.{News, met, parted}
 use Rattle.model.specs.Halls.{Hall, left, next_due}
 use Rattle.model.specs.Moves.{fire}
-use Rattle.model.specs.Runs.{Ran, Step, step, records, and_then, step_on, run_on, run_in, run, ending}
-use Rattle.accounts.specs.Laws.{RunEnds, RunsEnd}
+use Rattle.model.specs.Runs.{step, records, and_then, run_on, run_in, run, ending}
+use Rattle.accounts.specs.Laws.{RunsEnd}
 use Rattle.accounts.proofs.Counts.{fire_within}
 use Rattle.accounts.proofs.Sound.{Due, next_holds, unfit}
 

@@ -1,17 +1,17 @@
 -- Who is entered after each move, and the lists of the entered craft.
-use Rattle.std.proofs.Common.{◌≡◌, ℕ, suc, ◌-◌, ◌<◌, ◌≤◌, Bool, true, false, cond, not, ◌&&◌, eqb, ltb, ◌⊎◌, List, [], ◌∷◌, ◌++◌, is_some, Some, None, Option, sym, refl, ap, ◌∙◌, subst, inl, inr, arith, ltb-false, ne_eqb, eqb-true}
+use Rattle.std.proofs.Common.{◌≡◌, ℕ, ◌-◌, ◌<◌, ◌≤◌, Bool, true, false, cond, not, ◌&&◌, eqb, ltb, ◌⊎◌, List, [], ◌∷◌, is_some, Some, None, Option, sym, refl, ap, ◌∙◌, inl, inr, arith, ltb-false, ne_eqb, eqb-true}
 use mathlib.Core.List.Memᴰ
 use borrow.Author.Tests.{eqb-false, not-true}
-use Rattle.rules.specs.Basics.{◌∈◌, those, below, put}
+use Rattle.rules.specs.Basics.{◌∈◌, put}
 use Rattle.rules.specs.Stamps.{Stamp}
 use Rattle.rules.specs.Paths.{Axis, X, Y, Z, leg}
-use Rattle.rules.specs.Books.{path, BookChange, changed, follows}
+use Rattle.rules.specs.Books.{path, follows}
 use Rattle.rules.specs.Boxes.{Box}
 use Rattle.rules.specs.Slots.{slot}
-use Rattle.model.specs.Halls.{Craft, Hall, all_craft, in_hall, entered, others, with_book}
-use Rattle.model.specs.Moves.{Out, then, each, on_axes, take_away, withdrawn, fired, grant_bit, enter_bit, drop_bit, grant_leg, read_leg, craft_of, enter, leave, come_back, followers, renew, fire_leg, fire_kind, fire}
-use Rattle.accounts.proofs.Puts.{put_here, put_other, those_in, in_those, in_below, below_in, turn_those, turn_below}
-use Rattle.accounts.proofs.Slotted.{Others, Apart}
+use Rattle.model.specs.Halls.{Craft, Hall, all_craft, in_hall, entered, others}
+use Rattle.model.specs.Moves.{Out, then, each, on_axes, take_away, withdrawn, fired, grant_bit, enter_bit, drop_bit, read_leg, craft_of, enter, leave, followers, renew, fire_leg, fire_kind, fire}
+use Rattle.accounts.proofs.Puts.{put_here, those_in, in_those, in_below, below_in, turn_those, turn_below}
+use Rattle.accounts.proofs.Slotted.{Apart}
 use Rattle.accounts.proofs.Wanted.{Around}
 
 -- LISTS OF CRAFT

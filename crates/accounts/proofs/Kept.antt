@@ -1,5 +1,5 @@
 -- What each move does to the ledger and to the slots taken.
-use Rattle.std.proofs.Common.{◌≡◌, ℕ, suc, ◌+◌, ◌-◌, ◌<◌, ◌≤◌, Bool, true, false, cond, not, ◌&&◌, eqb, ltb, ◌⊎◌, List, [], ◌∷◌, ◌++◌, map, Some, None, Option, sym, refl, ap, ◌∙◌, subst, inl, inr, append_assoc, append-nil, arith, ltb-false, ltb-true, le-ltb, lt-ltb, eqb-true}
+use Rattle.std.proofs.Common.{◌≡◌, ℕ, suc, ◌<◌, ◌≤◌, Bool, true, false, cond, not, eqb, ltb, ◌⊎◌, List, [], ◌∷◌, ◌++◌, map, None, Option, sym, refl, ap, ◌∙◌, subst, inl, inr, append_assoc, append-nil, arith, ltb-false, ltb-true, le-ltb, lt-ltb}
 use Rattle.rules.specs.Basics.{◌∈◌, put}
 use Rattle.rules.specs.Stamps.{Stamp}
 use Rattle.rules.specs.Paths.{Axis, X, Y, Z}
@@ -9,7 +9,7 @@ use Rattle.model.specs.Halls.{Hall, with_bit, with_craft, others}
 use Rattle.model.specs.Moves.{Out, silent, then, each, on_axes, withdrawn, fired, grant, take_away, read_bit, grant_bit, enter_bit, drop_bit, grant_leg, read_leg, craft_of, enter, leave, axis_of, lower_of, higher_of, fire_bit, renew, fire_leg}
 use Rattle.accounts.proofs.Puts.{put_here, put_other, same_or_not}
 use Rattle.accounts.proofs.Ledgers.{Ledger, ledger, Told, granting, taking, Ends}
-use Rattle.accounts.proofs.Slotted.{wanted, set_all, Ready, ready, settled, Apart, Others, axis_slots, craft_slots, axis_apart, craft_apart, axis_range, in_axis, slot_named, slot_pair}
+use Rattle.accounts.proofs.Slotted.{wanted, set_all, Ready, ready, settled, Others, axis_slots, craft_slots, axis_apart, craft_apart, in_axis, slot_named, slot_pair}
 use Rattle.accounts.proofs.Wanted.{Around, pair_wanted, leg_wanted, own_slots, moved}
 
 -- the ledger is true, and the slots taken are those of W

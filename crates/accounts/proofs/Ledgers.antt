@@ -1,6 +1,6 @@
 -- The ledger: the numbers in the slots, the queue, the last number, and the lines told.
 -- Granting into an empty slot and taking from a full one keep it true.
-use Rattle.std.proofs.Common.{◌≡◌, ℕ, suc, ◌+◌, ◌*◌, ◌/◌, ◌%◌, ◌≤◌, Bool, true, false, cond, eqb, ◌⊎◌, List, [], ◌∷◌, ◌++◌, map, Some, None, Option, sym, refl, ap, ◌∙◌, subst, inl, inr, append-nil, arith, eq-eqb, ne_eqb, eqb-true}
+use Rattle.std.proofs.Common.{◌≡◌, ℕ, suc, ◌+◌, ◌*◌, ◌/◌, ◌%◌, ◌≤◌, Bool, true, false, cond, eqb, ◌⊎◌, List, [], ◌∷◌, ◌++◌, map, None, Option, sym, refl, ap, ◌∙◌, subst, inl, inr, append-nil, arith, eq-eqb, ne_eqb, eqb-true}
 use mathlib.Core.List.Memᴰ
 use borrow.Author.Tests.{eqb-false}
 use Rattle.rules.specs.Basics.{◌∈◌, those, below, put, InTurn}

@@ -1,26 +1,25 @@
 -- What every call keeps: the ledger is true, exactly the slots of the entered pairs and craft are taken,
 -- no craft is out of range, and the numbers stay in their limit.
-use Rattle.std.proofs.Common.{◌≡◌, ℕ, zero, suc, ◌+◌, ◌-◌, ◌<◌, ◌≤◌, Bool, true, false, cond, not, ◌&&◌, ◌||◌, eqb, ltb, leb, ◌⊎◌, List, [], ◌∷◌, ◌++◌, length, is_some, Some, None, Option, sym, refl, ap, ◌∙◌, subst, inl, inr, append_assoc, append-nil, arith, ltb-false, ltb-true, le-ltb, lt-ltb, leb-false}
+use Rattle.std.proofs.Common.{◌≡◌, ℕ, zero, suc, ◌-◌, ◌<◌, ◌≤◌, Bool, true, false, cond, not, ◌&&◌, ◌||◌, ltb, List, [], ◌∷◌, ◌++◌, is_some, Some, None, Option, sym, refl, ap, ◌∙◌, subst, append_assoc, append-nil, arith, ltb-false, ltb-true, le-ltb, lt-ltb, leb-false}
 use mathlib.Core.List.Memᴰ
 use borrow.Author.Tests.{not-false, both_ways}
-use Rattle.rules.specs.Basics.{◌∈◌, put, first_fit}
+use Rattle.rules.specs.Basics.{first_fit}
 use Rattle.rules.specs.Fractions.{Fraction}
 use Rattle.rules.specs.Stamps.{Stamp, at, is_earlier}
 use Rattle.rules.specs.Books.{Book, BookChange, book_rows, changed}
 use Rattle.rules.specs.Boxes.{Box}
 use Rattle.rules.specs.Slots.{Queue, leg_slot, sooner, first_below, first}
-use Rattle.model.specs.Halls.{Hall, State, empty_hall, opened, with_book, in_hall, left, due_by, next_due, quiet, due}
-use Rattle.model.specs.Moves.{Out, then, each, fired, take_away, enter, leave, craft_of, craft_set, followers, come_back, change, lower_of, higher_of, fire_bit, fire_leg, fire_kind, fire}
+use Rattle.model.specs.Halls.{Hall, State, empty_hall, with_book, in_hall, left, due_by, next_due, quiet}
+use Rattle.model.specs.Moves.{then, each, fired, take_away, enter, leave, craft_of, craft_set, followers, come_back, change, lower_of, higher_of, fire_leg, fire_kind, fire}
 use Rattle.model.specs.Calls.{Change, entering, leaving, booking, Call, changing, setting, stepping, running, resting, touching, listing, asking}
 use Rattle.model.specs.Refusals.{not_mine, change_rows, rows, refusal}
-use Rattle.model.specs.Runs.{step, run_in, run_on, ending}
+use Rattle.model.specs.Runs.{run_in, run_on, ending}
 use Rattle.model.specs.Performing.{make, unless, stepping_to, carried_out, perform}
 use Rattle.model.specs.Histories.{events, after, lines_told}
-use Rattle.accounts.specs.Bounds.{Within}
-use Rattle.accounts.proofs.Puts.{put_here, put_other}
-use Rattle.accounts.proofs.Ledgers.{Ledger, ledger, Told, opened_told}
+use Rattle.accounts.proofs.Puts.{put_other}
+use Rattle.accounts.proofs.Ledgers.{ledger, opened_told}
 use Rattle.accounts.proofs.Slotted.{wanted}
-use Rattle.accounts.proofs.Kept.{Good, good_same, enter_good, leave_good, fire_bit_good, fire_leg_good}
+use Rattle.accounts.proofs.Kept.{Good, enter_good, leave_good, fire_bit_good, fire_leg_good}
 use Rattle.accounts.proofs.Frames.{others_around, enter_in, leave_in, fire_in, SomeEntered, followers_entered}
 use Rattle.accounts.proofs.Counts.{enter_within, leave_within, change_within, fire_within, SomeOutside, outside_next, followers_outside}
 

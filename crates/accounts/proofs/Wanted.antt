@@ -1,14 +1,13 @@
 -- Entering takes exactly the slots that are wanted then, and leaving empties them.
-use Rattle.std.proofs.Common.{◌≡◌, ℕ, suc, ◌+◌, ◌-◌, ◌*◌, ◌<◌, ◌≤◌, min, max, Bool, true, false, cond, not, ◌&&◌, ltb, ◌⊎◌, List, [], ◌∷◌, ◌++◌, map, sym, refl, ap, ◌∙◌, subst, inl, inr, arith, ltb-false, ltb-true, le-ltb, lt-ltb}
+use Rattle.std.proofs.Common.{◌≡◌, ℕ, ◌+◌, ◌-◌, ◌*◌, ◌<◌, ◌≤◌, min, max, Bool, true, false, cond, ◌&&◌, ltb, ◌⊎◌, List, [], ◌∷◌, ◌++◌, sym, refl, ap, ◌∙◌, subst, inl, inr, arith, ltb-false, ltb-true, le-ltb, lt-ltb}
 use mathlib.Core.Bool.{and-false}
 use mathlib.Core.List.Memᴰ
-use native.Mathlib.Nat.{min_comm, max_comm, min-eq_left, min-eq_right, max-eq_left, max-eq_right}
-use borrow.Author.Tests.{both_ways}
+use native.Mathlib.Nat.{min_comm, max_comm}
 use Rattle.rules.specs.Basics.{◌∈◌, put}
 use Rattle.rules.specs.Paths.{Axis, X, Y, Z}
 use Rattle.rules.specs.Slots.{rank, slot, leg_slot}
 use Rattle.model.specs.Moves.{axis_of, lower_of, higher_of}
-use Rattle.accounts.proofs.Puts.{put_here, put_other, same_or_not, true_or_false}
+use Rattle.accounts.proofs.Puts.{put_here, put_other, same_or_not}
 use Rattle.accounts.proofs.Slotted.{wanted, set_all, settled, Others, axis_slots, craft_slots, in_axis, slot_lower, slot_higher, slot_pair, slot_named}
 
 -- what is wanted of a pair's slot

@@ -1,5 +1,5 @@
 -- How many lines each move writes and how many numbers it grants, at most.
-use Rattle.std.specs.Prelude.{ℕ, suc, ◌+◌, ◌<◌, ◌≤◌, length}
+use Rattle.std.specs.Prelude.{ℕ, ◌+◌, ◌<◌, ◌≤◌, length}
 use Rattle.rules.specs.Stamps.{Stamp}
 use Rattle.rules.specs.Books.{BookChange}
 use Rattle.rules.specs.Boxes.{Box}

@@ -1,5 +1,5 @@
 -- The tournament's best is the calendar's first.
-use Rattle.std.specs.Prelude.{◌≡◌, ℕ, ◌+◌, ◌<◌, ◌≤◌, true, false, cond, ◌⊎◌, List, length, Some, None, Option, ◌==◌, ◌≢◌, nat_eq, nat_lt, slice_set, refl}
+use Rattle.std.specs.Prelude.{◌≡◌, ℕ, ◌+◌, ◌<◌, ◌≤◌, true, false, cond, List, length, Some, None, Option, ◌==◌, ◌≢◌, nat_eq, nat_lt, slice_set, refl}
 use Rattle.std.proofs.Common.{sym, ap, ◌∙◌, subst, ⊎_elim, arith}
 use Rattle.std.proofs.Math.Logic.{∥∥₁_elim}
 use mathlib.Core.HLevel.{Π_prop, →_prop}
@@ -17,7 +17,7 @@ use Rattle.queues.specs.Laws.{Held}
 use Rattle.queues.proofs.Firsts.{first_only}
 use Rattle.calendar_queue.specs.declared.entry.Entry.{Entry}
 use Rattle.calendar_queue.specs.Entries.{bucket, ahead, lies}
-use Rattle.calendar_queue.specs.Links.{table, links, stands, opens, Follows, Linked}
+use Rattle.calendar_queue.specs.Links.{table, links, opens, Follows, Linked}
 use Rattle.calendar_queue.specs.Heads.{entry_at, head_of}
 use Rattle.calendar_queue.specs.Crowns.{node, Matched}
 use Rattle.calendar_queue.specs.Calendars.{kept_in, Agree, told}

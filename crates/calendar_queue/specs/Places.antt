@@ -3,7 +3,7 @@ use Rattle.std.specs.Prelude.{◌≡◌, ℕ, ◌+◌, ◌<◌, ◌≤◌, true,
 use Rattle.std.proofs.Common.{sym, ap, ◌∙◌, subst, inl, inr, ⊎_elim, arith}
 use Rattle.std.proofs.lemmas.Bool.{both_ways, cases_Bool, cases_lt, lt-ltb, le-ltb, eq-eqb, eqb-true}
 use Rattle.times.specs.declared.moment.Moment.{Moment}
-use Rattle.calendar_queue.specs.Entries.{bucket, leads, lies}
+use Rattle.calendar_queue.specs.Entries.{leads, lies}
 use Rattle.calendar_queue.specs.Links.{Table, stands, opens, Follows}
 use Rattle.calendar_queue.specs.Order.{leads_chain, leads_never, leads_total, lies_none, lies_one}
 

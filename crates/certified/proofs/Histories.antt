@@ -1,23 +1,22 @@
 -- From a hall at rest, the certificates that every history tells.
-use Rattle.std.proofs.Common.{◌≡◌, ℕ, ◌<◌, ◌≤◌, Bool, true, ltb, List, [], is_some, Some, None, Option, sym, refl, ap, ◌∙◌, subst, arith, lt-ltb}
+use Rattle.std.proofs.Common.{◌≡◌, ℕ, ◌<◌, ◌≤◌, true, List, [], is_some, Some, None, Option, sym, refl, ap, ◌∙◌, subst, arith, lt-ltb}
 use Rattle.rules.specs.Basics.{the}
 use Rattle.rules.specs.Fractions.{Fraction}
 use Rattle.rules.specs.Stamps.{Stamp, at}
-use Rattle.rules.specs.Paths.{Axis, Kept, leg, first_after}
+use Rattle.rules.specs.Paths.{Axis, Kept, leg}
 use Rattle.rules.specs.Books.{Book, path, break_after, Lawful}
-use Rattle.rules.specs.Boxes.{Box, Ends, ends, overlap, Fails}
+use Rattle.rules.specs.Boxes.{Box, ends, overlap, Fails}
 use Rattle.rules.specs.Slots.{slot, leg_slot}
-use Rattle.model.specs.Halls.{Craft, Hall, quiet, opened, in_hall}
+use Rattle.model.specs.Halls.{Craft, quiet, opened, in_hall}
 use Rattle.model.specs.Moves.{at_break}
 use Rattle.model.specs.Calls.{Call}
-use Rattle.model.specs.Histories.{after, lines_told, changes, book_changes, book_now, boxes_now, clock_now}
-use Rattle.model.specs.Statement.{story, Tells, Certificates}
+use Rattle.model.specs.Histories.{after, changes, book_changes, book_now, boxes_now, clock_now}
+use Rattle.model.specs.Statement.{story, Tells}
 use Rattle.accounts.specs.Laws.{box_in, boxes}
 use Rattle.accounts.proofs.Wanted.{leg_wanted}
 use Rattle.accounts.proofs.Sound.{story_stands, opened_stands}
 use Rattle.accounts.proofs.Agrees.{clock_is, book_is, boxes_are}
 use Rattle.accounts.proofs.Accounts.{asked, Has, has}
-use Rattle.events.specs.Machine.{Sky, box_of, In}
 use Rattle.certified.specs.Rest.{AtRest}
 use Rattle.certified.specs.Histories.{sky_of, core_of, Rests, CertificatesFromRest}
 use Rattle.certified.proofs.Rest.{certificates_rest}

@@ -1,21 +1,20 @@
 -- At a quiet clock the present legs are those of the paths, and so each certificate fails when the paths say.
-use Rattle.std.proofs.Common.{◌≡◌, ℕ, zero, suc, ◌*◌, ◌<◌, ◌≤◌, min, Bool, true, false, cond, ◌⊎◌, List, [], ◌∷◌, Some, None, Option, sym, refl, ap, ◌∙◌, subst, inl, inr, ⊎_elim, mul-le-mul_right, arith}
+use Rattle.std.proofs.Common.{◌≡◌, ℕ, suc, ◌<◌, ◌≤◌, min, Bool, true, false, cond, List, [], ◌∷◌, Some, None, Option, sym, refl, ap, ◌∙◌, subst, inl, inr, ⊎_elim, mul-le-mul_right, arith}
 use mathlib.Core.List.Memᴰ
 use native.Mathlib.Decide.{dec_le}
 use Rattle.rules.specs.Basics.{◌∈◌}
-use Rattle.rules.specs.Fractions.{Fraction, Proper, Before, NotAfter, SameTime, tick, whole, is_before}
+use Rattle.rules.specs.Fractions.{Fraction, Proper, Before, NotAfter, tick, whole, is_before}
 use Rattle.rules.specs.Stamps.{Stamp, at, Earlier, is_earlier}
-use Rattle.rules.specs.Paths.{Axis, Line, Path, Kept, leg, line_at, first_after, min_with}
-use Rattle.rules.specs.Boxes.{Box, Ends, ends, overlap, wrong, Fails}
+use Rattle.rules.specs.Paths.{Axis, Line, Path, Kept, leg, first_after, min_with}
+use Rattle.rules.specs.Boxes.{Ends, ends, overlap, wrong, Fails}
 use Rattle.rules.proofs.Order.{not_after_before}
 use Rattle.rules.proofs.Ordering.{tests_right}
 use Rattle.rules.proofs.Stamped.{false_true}
 use Rattle.geometry_laws.proofs.Lists.{is_earlier_so, not_earlier_is, not_earlier_self}
-use Rattle.geometry_laws.proofs.Paths.{Straight, kept_straight, same_leg, whole_mono, start_ok, end_ok}
+use Rattle.geometry_laws.proofs.Paths.{kept_straight, same_leg, whole_mono, start_ok, end_ok}
 use Rattle.model.specs.Moves.{at_break}
-use Rattle.events.specs.Machine.{Sky, flies, box_of, Pair, In, Core, Flying, Rested}
-use Rattle.events.specs.Reports.{Lawful}
-use Rattle.certified.specs.Rest.{ends_at, AtRest, CertificatesRest}
+use Rattle.events.specs.Machine.{flies, box_of, Pair, In, Flying}
+use Rattle.certified.specs.Rest.{ends_at, CertificatesRest}
 
 -- THE FIRST BREAK AFTER A TIME
 

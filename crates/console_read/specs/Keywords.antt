@@ -1,5 +1,5 @@
 -- The fixed words of commands.
-use Rattle.std.specs.Prelude.{ℕ, Bool, cond, List, Some, None, codes, Option}
+use Rattle.std.specs.Prelude.{ℕ, cond, List, Some, None, codes, Option}
 use Rattle.std.specs.Str.{bytes_eq}
 use Rattle.console_read.specs.declared.command.Book.{Book}
 use Rattle.console_read.specs.declared.command.Book.TheVariants.{Single, Itinerary}

@@ -1,12 +1,11 @@
 -- Each command's words: how many there are, which are fixed, and how the others are read.
-use Rattle.std.specs.Prelude.{ℕ, zero, suc, ◌+◌, ◌-◌, ◌*◌, ◌/◌, ◌%◌, Bool, cond, ◌&&◌, List, [], ◌∷◌, ◌++◌, length, replicate, ℤ, pos, Some, None, codes, Option, ◌==◌, nat_le, slice_index_or}
+use Rattle.std.specs.Prelude.{ℕ, zero, suc, ◌+◌, ◌-◌, ◌*◌, ◌/◌, ◌%◌, cond, ◌&&◌, List, [], ◌∷◌, ◌++◌, length, replicate, ℤ, pos, Some, None, codes, Option, ◌==◌, nat_le, slice_index_or}
 use Rattle.std.specs.Str.{bytes_eq}
 use Rattle.console_text.specs.Numbers.{unsigned_in, signed_in, time_in}
 use Rattle.console_read.specs.Keywords.{book_of, queue_of}
 use Rattle.console_read.specs.declared.command.LegText.{LegText}
-use Rattle.console_read.specs.declared.command.Filing.{Filing}
 use Rattle.console_read.specs.declared.command.Command.{Command}
-use Rattle.console_read.specs.declared.command.Command.TheVariants.{Open, Room, File, Ride, Enter, Leave, Set, Step, Run, Rest, Touching, List as Listing, Certificate, Leg, Follows, Cues}
+use Rattle.console_read.specs.declared.command.Command.TheVariants.{Open, Room, File, Ride, Enter, Leave, Set, Touching, Certificate, Leg, Follows}
 
 -- the words of a line
 abbrev pub Words : Type 0

@@ -1,9 +1,9 @@
 -- What is due is held in a slot that there is.
-use Rattle.std.proofs.Common.{◌≡◌, ℕ, ◌<◌, ◌≤◌, Bool, true, false, cond, Some, None, Option, sym, refl, ap, ◌∙◌, subst, arith, MatchOption}
+use Rattle.std.proofs.Common.{◌≡◌, ℕ, ◌<◌, ◌≤◌, Bool, true, false, cond, Some, None, Option, sym, ap, ◌∙◌, subst, arith, MatchOption}
 use native.Mathlib.Decide.{dec_lt}
 use Rattle.rules.specs.Fractions.{Fraction}
 use Rattle.rules.specs.Stamps.{Stamp, at, is_earlier}
-use Rattle.rules.specs.Slots.{Queue, first, First, LeastSlot}
+use Rattle.rules.specs.Slots.{Queue, first, First}
 use Rattle.times.specs.declared.moment.Moment.{Moment}
 use Rattle.times.specs.Of.{moment_of}
 use Rattle.queues.specs.Laws.{Held}

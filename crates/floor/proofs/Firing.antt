@@ -1,10 +1,10 @@
 -- Entering, leaving and firing, with what the code did on the way.
-use Rattle.std.proofs.Common.{◌≡◌, ℕ, suc, ◌+◌, ◌-◌, ◌<◌, ◌≤◌, Bool, true, false, cond, not, ltb, leb, List, [], ◌∷◌, ◌++◌, length, Some, None, Ok, Err, Option, Result, sym, refl, ap, ◌∙◌, subst, ap₂, add-zero, arith, le-ltb, lt-ltb, MatchOption}
+use Rattle.std.proofs.Common.{◌≡◌, ℕ, ◌-◌, ◌<◌, ◌≤◌, Bool, true, false, cond, ltb, List, [], Some, None, Ok, Err, Option, sym, ap, ◌∙◌, subst, ap₂, add-zero, arith, le-ltb, lt-ltb, MatchOption}
 use borrow.Author.Tests.{lt-leb}
 use Rattle.rules.specs.Basics.{the}
 use Rattle.rules.specs.Fractions.{Fraction}
 use Rattle.rules.specs.Stamps.{Stamp}
-use Rattle.rules.specs.Paths.{Axis, Line, Path, leg, first_after}
+use Rattle.rules.specs.Paths.{Axis, Line, leg}
 use Rattle.rules.specs.Books.{Book, Lawful, path, break_after}
 use Rattle.rules.specs.Boxes.{Box}
 use Rattle.rules.specs.Slots.{Queue, leg_slot}
@@ -13,14 +13,14 @@ use Rattle.plans.specs.Laws.{LeastAfter}
 use Rattle.plans.proofs.Breaks.{first_after_least}
 use Rattle.books.specs.Told.{leg_answer}
 use Rattle.model.specs.Halls.{Craft, Hall, with_craft, others}
-use Rattle.model.specs.Moves.{Out, silent, then, on_axes, withdrawn, fired, take_away, read_leg, enter, leave, fire_bit, fire_leg, fire_kind, fire, craft_of, nobody, grant, at_break}
+use Rattle.model.specs.Moves.{silent, then, on_axes, withdrawn, fired, take_away, read_leg, enter, leave, fire_bit, fire_leg, fire_kind, fire, craft_of, nobody}
 use Rattle.tables.specs.Crafts.{with_legs, turned}
 use Rattle.tables.specs.Tables.{Table, put_craft}
-use Rattle.floor_laws.specs.Writing.{Move, Wrote, Fits, Grows, written}
+use Rattle.floor_laws.specs.Writing.{Move, Wrote, Fits, Grows}
 use Rattle.floor_laws.specs.Reading.{enters, drops, renews, reading}
-use Rattle.floor_laws.proofs.Writes.{wrote_as, fits_as, wrote_then, fits_first, fits_second, first_room, grows_then, written_none}
-use Rattle.floor_laws.proofs.Moving.{grows_axes, grant_grows, grant_leg_grows, take_grows, grant_bit_grows}
-use Rattle.floor_laws.proofs.Legs.{enters_leaves, drops_grows, renews_leaves, renews_grows, reading_is}
+use Rattle.floor_laws.proofs.Writes.{wrote_as, fits_as, wrote_then, fits_first, fits_second, first_room, written_none}
+use Rattle.floor_laws.proofs.Moving.{grows_axes}
+use Rattle.floor_laws.proofs.Legs.{enters_leaves, renews_leaves, renews_grows, reading_is}
 use Rattle.floor.specs.Of.{joined}
 
 abbrev Asked : Type 0

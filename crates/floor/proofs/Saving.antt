@@ -1,5 +1,5 @@
 -- The followers' records, saved one after another; and what they are for.
-use Rattle.std.proofs.Common.{◌≡◌, ℕ, suc, ◌+◌, ◌<◌, ◌≤◌, Bool, true, false, cond, ◌&&◌, ◌≢◌, List, length, get_or, set, replicate, is_some, Some, None, Option, sym, refl, ap, ◌∙◌, subst, add-zero, arith, length-set, get_or-set_other, get_or-set_same}
+use Rattle.std.proofs.Common.{◌≡◌, ℕ, ◌+◌, ◌<◌, ◌≤◌, Bool, true, false, cond, ◌&&◌, ◌≢◌, List, length, get_or, set, replicate, is_some, Some, None, Option, sym, refl, ap, ◌∙◌, subst, arith, length-set, get_or-set_other, get_or-set_same}
 use native.Mathlib.Decide.{dec_lt}
 use Rattle.std.proofs.lemmas.List.{length-replicate}
 use Rattle.rules.specs.Basics.{the, those, below}
@@ -7,7 +7,7 @@ use Rattle.rules.specs.Stamps.{Stamp}
 use Rattle.rules.specs.Books.{follows}
 use Rattle.rules.specs.Boxes.{Box}
 use Rattle.model.specs.Halls.{Craft, Hall, in_hall}
-use Rattle.model.specs.Moves.{nobody, craft_of, followers, silent, enter}
+use Rattle.model.specs.Moves.{nobody, craft_of, followers, enter}
 use Rattle.tables.specs.declared.craft.CraftRecord.{CraftRecord}
 use Rattle.tables.specs.Crafts.{record_of, record_in}
 use Rattle.floor_laws.specs.Writing.{Move, Wrote, Fits, where_so}

@@ -1,5 +1,5 @@
 -- The records of the followers, saved while they are out.
-use Rattle.std.specs.Prelude.{◌≡◌, ℕ, ◌<◌, Bool, cond, List, length, is_some, Some, None, Option, slice_index_or}
+use Rattle.std.specs.Prelude.{◌≡◌, ℕ, ◌<◌, Bool, cond, List, length, is_some, None, Option, slice_index_or}
 use Rattle.rules.specs.Basics.{the}
 use Rattle.rules.specs.Books.{follows}
 use Rattle.rules.specs.Boxes.{Box}

@@ -1,17 +1,17 @@
 -- A filing or a ride: the followers leave, the book changes, they enter again.
-use Rattle.std.proofs.Common.{◌≡◌, ℕ, zero, suc, ◌+◌, ◌<◌, ◌≤◌, Bool, true, false, cond, ◌&&◌, List, [], ◌∷◌, ◌++◌, length, is_some, Option, sym, refl, ap, ◌∙◌, subst, ap₂, arith}
+use Rattle.std.proofs.Common.{◌≡◌, ℕ, zero, suc, ◌<◌, Bool, true, false, cond, ◌&&◌, List, [], ◌∷◌, ◌++◌, sym, refl, ap, ◌∙◌, ap₂, arith}
 use mathlib.Core.List.Memᴰ
 use Rattle.rules.specs.Basics.{◌∈◌, those, below}
 use Rattle.rules.specs.Stamps.{Stamp}
-use Rattle.rules.specs.Books.{Book, BookChange, changed, follows}
+use Rattle.rules.specs.Books.{BookChange, changed, follows}
 use Rattle.rules.specs.Boxes.{Box}
-use Rattle.model.specs.Halls.{Craft, Hall, with_book, in_hall, entered, all_craft}
-use Rattle.model.specs.Moves.{Out, then, each, enter, leave, craft_of, craft_set, followers, come_back, change}
+use Rattle.model.specs.Halls.{Hall, with_book, in_hall, all_craft}
+use Rattle.model.specs.Moves.{then, each, enter, leave, craft_of, craft_set, followers, come_back, change}
 use Rattle.accounts.proofs.Puts.{those_in, in_below}
 use Rattle.floor_laws.specs.Writing.{Move, Wrote, Fits, Grows}
 use Rattle.floor_laws.proofs.Writes.{wrote_as, fits_as, wrote_then, fits_first, fits_second, first_room}
 use Rattle.floor_laws.proofs.Loops.{prefix, grows_each, those_append}
-use Rattle.floor_laws.proofs.Moving.{enter_grows, leave_grows}
+use Rattle.floor_laws.proofs.Moving.{enter_grows}
 
 -- one test after another is both at once
 those_those : (p q : ℕ → Bool) (xs : List ℕ) → those p (those q xs) ≡ those (λ d. q d && p d) xs

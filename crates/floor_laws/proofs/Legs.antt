@@ -1,17 +1,17 @@
 -- Entering, leaving and firing, as the code makes them.
-use Rattle.std.proofs.Common.{◌≡◌, ℕ, suc, ◌+◌, ◌-◌, ◌<◌, ◌≤◌, Bool, true, false, cond, not, ltb, List, [], ◌∷◌, ◌++◌, Some, None, Option, sym, refl, ap, ◌∙◌, subst, arith}
+use Rattle.std.proofs.Common.{◌≡◌, ℕ, true, List, Some, Option, sym, ap, ◌∙◌, subst}
 use Rattle.rules.specs.Stamps.{Stamp}
 use Rattle.rules.specs.Paths.{Axis}
 use Rattle.rules.specs.Books.{Book, break_after}
 use Rattle.rules.specs.Boxes.{Box}
-use Rattle.rules.specs.Slots.{slot, leg_slot}
-use Rattle.model.specs.Halls.{Craft, Hall, with_craft, with_bit, others}
-use Rattle.model.specs.Moves.{Out, silent, then, each, on_axes, withdrawn, fired, grant, take_away, grant_bit, enter_bit, drop_bit, at_break, grant_leg, read_leg, enter, leave, renew, craft_of, fire_bit, fire_leg, fire_kind, fire, axis_of, lower_of, higher_of}
+use Rattle.rules.specs.Slots.{leg_slot}
+use Rattle.model.specs.Halls.{Hall, others}
+use Rattle.model.specs.Moves.{then, each, on_axes, grant, enter_bit, drop_bit, at_break, grant_leg, read_leg}
 use Rattle.floor_laws.specs.Writing.{Move, Wrote, Fits, Grows, Leaves, withdraw, regrant}
 use Rattle.floor_laws.specs.Reading.{enters, drops, renews, reading}
-use Rattle.floor_laws.proofs.Writes.{wrote_as, fits_as, wrote_then, fits_first, fits_second, first_room, grows_then, written_none}
-use Rattle.floor_laws.proofs.Loops.{grows_each, leaves_each, others_craft, others_with}
-use Rattle.floor_laws.proofs.Moving.{leaves_then, leaves_axes, grows_axes, grant_grows, grant_leg_grows, take_grows, take_leaves, enter_bit_grows, enter_bit_leaves, drop_bit_grows, drop_bit_leaves, grant_bit_grows, grant_bit_leaves, withdraw_leaves, withdraw_one_grows}
+use Rattle.floor_laws.proofs.Writes.{wrote_then, fits_first, fits_second, first_room, grows_then}
+use Rattle.floor_laws.proofs.Loops.{grows_each, leaves_each, others_with}
+use Rattle.floor_laws.proofs.Moving.{leaves_then, leaves_axes, grant_grows, enter_bit_grows, enter_bit_leaves, drop_bit_grows, drop_bit_leaves, grant_bit_grows, grant_bit_leaves, withdraw_leaves, withdraw_one_grows}
 
 pub enters_leaves : (c : ℕ) (k : Stamp) (a : Axis) (ds : List ℕ) → Leaves (enters c k a ds)
 enters_leaves c k a = leaves_each (enter_bit a c k) (enter_bit_leaves a c k)

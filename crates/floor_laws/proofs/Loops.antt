@@ -1,12 +1,12 @@
 -- A move for each craft that passes a test, as a loop over all craft makes it.
 use Rattle.std.proofs.Common.{◌≡◌, ℕ, zero, suc, ◌+◌, ◌-◌, ◌<◌, ◌≤◌, Bool, true, false, cond, not, ◌&&◌, eqb, List, [], ◌∷◌, ◌++◌, length, is_some, Option, sym, refl, ap, ◌∙◌, subst, add-zero, add-suc, add-one, arith}
 use mathlib.Core.Path.{fun_ext}
-use Rattle.std.proofs.lemmas.List.{length-append, append_assoc, append-nil}
+use Rattle.std.proofs.lemmas.List.{append_assoc, append-nil}
 use Rattle.rules.specs.Basics.{those, below, put}
-use Rattle.model.specs.Halls.{Craft, Hall, in_hall, others, with_craft, all_craft}
+use Rattle.model.specs.Halls.{Craft, Hall, others, with_craft, all_craft}
 use Rattle.rules.specs.Paths.{Axis, X, Y, Z}
 use Rattle.model.specs.Moves.{Out, then, silent, each, on_axes}
-use Rattle.floor_laws.specs.Writing.{Move, written, Wrote, Fits, Grows, Leaves, other, where_so, if_other}
+use Rattle.floor_laws.specs.Writing.{Move, Wrote, Fits, Grows, Leaves, other, where_so, if_other}
 use Rattle.floor_laws.proofs.Writes.{written_none, written_length, out_≡, wrote_silent, wrote_as, fits_as, wrote_then, fits_first, fits_second, first_room, grows_then}
 
 pub those_append : {A : Type 0} (p : A → Bool) (xs ys : List A) → those p (xs ++ ys) ≡ those p xs ++ those p ys

@@ -1,16 +1,14 @@
 -- What each move leaves: numbers never fall; moves of certificates leave the craft and the book.
-use Rattle.std.proofs.Common.{◌≡◌, ℕ, zero, suc, ◌+◌, ◌-◌, ◌<◌, ◌≤◌, Bool, true, false, cond, not, ◌&&◌, List, [], ◌∷◌, ◌++◌, Option, sym, refl, ap, ◌∙◌, subst, arith}
-use Rattle.rules.specs.Basics.{those, below}
+use Rattle.std.proofs.Common.{ℕ, true, List, Option, refl, ◌∙◌, arith}
 use Rattle.rules.specs.Stamps.{Stamp}
 use Rattle.rules.specs.Paths.{Axis, X, Y, Z}
-use Rattle.rules.specs.Books.{Book, BookChange, changed}
 use Rattle.rules.specs.Boxes.{Box}
-use Rattle.rules.specs.Slots.{slot, leg_slot}
-use Rattle.model.specs.Halls.{Craft, Hall, with_book, others}
-use Rattle.model.specs.Moves.{Out, silent, then, each, on_axes, withdrawn, grant, take_away, grant_bit, enter_bit, drop_bit, grant_leg, enter, leave, renew, fire_bit, fire_leg, fire_kind, fire, come_back, change, followers, craft_set, craft_of, read_leg}
-use Rattle.floor_laws.specs.Writing.{Move, Grows, Leaves, withdraw, regrant}
+use Rattle.rules.specs.Slots.{slot}
+use Rattle.model.specs.Halls.{others}
+use Rattle.model.specs.Moves.{then, each, on_axes, withdrawn, grant, take_away, grant_bit, enter_bit, drop_bit, grant_leg, enter, leave, read_leg}
+use Rattle.floor_laws.specs.Writing.{Move, Grows, Leaves, withdraw}
 use Rattle.floor_laws.proofs.Writes.{grows_then}
-use Rattle.floor_laws.proofs.Loops.{grows_each, leaves_each}
+use Rattle.floor_laws.proofs.Loops.{grows_each}
 
 pub leaves_then : (f g : Move) → Leaves f → Leaves g → Leaves (then f g)
 leaves_then f g a b m = ((b (f m).hall).0 ∙ (a m).0, (b (f m).hall).1 ∙ (a m).1)

@@ -1,6 +1,6 @@
 -- Lines written one after another.
-use Rattle.std.proofs.Common.{◌≡◌, ℕ, suc, ◌+◌, ◌<◌, ◌≤◌, min, List, [], ◌∷◌, ◌++◌, length, get_or, take, drop, set, sym, refl, ap, ◌∙◌, subst, add-zero, add_assoc, zero-add, add-one, arith}
-use Rattle.std.proofs.lemmas.List.{set_split, length-append, length-take, length-take-le, length-drop, take_at, append_assoc, drop-append-le, drop_at, drop-drop, take-append-drop}
+use Rattle.std.proofs.Common.{◌≡◌, ℕ, ◌+◌, ◌<◌, ◌≤◌, List, [], ◌∷◌, ◌++◌, length, take, drop, set, sym, ap, ◌∙◌, subst, add-zero, add_assoc, zero-add, add-one, arith}
+use Rattle.std.proofs.lemmas.List.{set_split, length-append, length-take, length-drop, take_at, append_assoc, take-append-drop}
 use Rattle.std.proofs.lemmas.Slice.{drop-append-drop}
 use Rattle.model.specs.Halls.{Hall}
 use Rattle.model.specs.Moves.{Out, then, silent}

@@ -1,5 +1,5 @@
 -- Steps, runs and lists.
-use Rattle.std.proofs.Common.{◌≡◌, ℕ, ◌+◌, ◌-◌, ◌<◌, ◌≤◌, Bool, true, false, not, ltb, List, [], ◌∷◌, ◌++◌, length, drop, is_some, Some, None, Ok, Err, Option, Result, sym, refl, ap, ◌∙◌, subst, zero-add, arith, MatchResult}
+use Rattle.std.proofs.Common.{◌≡◌, ℕ, ◌<◌, ◌≤◌, true, false, not, List, ◌++◌, length, drop, is_some, Some, None, Ok, Err, Option, Result, sym, refl, ap, ◌∙◌, zero-add, arith, MatchResult}
 use borrow.Author.Tests.{both_ways}
 use Rattle.std.proofs.lemmas.Bool.{lt-ltb, le-ltb, ltb-false, not-false}
 use Rattle.std.proofs.lemmas.List.{length-append, length-drop}
@@ -11,7 +11,7 @@ use Rattle.model.specs.Moves.{fire}
 use Rattle.model.specs.Calls.{stepping, running, listing, done, stepped, ran, accepted, refused, Done}
 use Rattle.model.specs.Refusals.{not_mine, pairs, rows, refusal}
 use Rattle.model.specs.Runs.{step, run}
-use Rattle.model.specs.Performing.{carried_out, stepping_to, perform}
+use Rattle.model.specs.Performing.{stepping_to}
 use Rattle.accounts.proofs.Counts.{fire_within}
 use Rattle.accounts.proofs.Sound.{unfit}
 use Rattle.floor_laws.specs.Writing as floor
@@ -20,7 +20,7 @@ use Rattle.times.specs.declared.refusal.Refusal.{Refusal}
 use Rattle.times.specs.Refusals.{number_of}
 use Rattle.runs.specs.Running.{Went}
 use Rattle.runs.specs.Listing as runs
-use Rattle.hall.specs.Told.{Performed, Wrote, onto, done_told, count_told}
+use Rattle.hall.specs.Told.{Wrote, onto, done_told, count_told}
 use Rattle.hall.specs.ToldOn.{Paged, Listed}
 use Rattle.hall.proofs.Rows.{here, later, at_none, at_refusal, refused_performed, refused_wrote, done_performed}
 

@@ -6,7 +6,6 @@ use Rattle.rules.specs.Books.{Book}
 use Rattle.rules.specs.Slots.{Queue}
 use Rattle.times.specs.declared.refusal.Refusal.{Refusal}
 use Rattle.times.specs.Refusals.{number_of}
-use Rattle.times.specs.Of.{time_of}
 use Rattle.model.specs.Halls.{quiet, State, opened}
 use Rattle.model.specs.Calls.{Call, Reply, done, clock, Result, refused, accepted}
 use Rattle.model.specs.Refusals.{opening_refusal}

@@ -1,13 +1,13 @@
 -- What the tables hold: the root is the least, and a change is a change at one slot.
-use Rattle.std.specs.Prelude.{◌≡◌, ℕ, zero, suc, ◌<◌, ◌≤◌, Bool, true, false, cond, not, ◌⊎◌, List, length, Some, None, Option, ◌==◌, ◌≢◌, nat_eq, slice_set}
+use Rattle.std.specs.Prelude.{◌≡◌, ℕ, zero, suc, ◌<◌, ◌≤◌, Bool, true, false, cond, ◌⊎◌, List, length, Some, None, ◌==◌, ◌≢◌, nat_eq, slice_set}
 use Rattle.std.proofs.Common.{sym, ap, ◌∙◌, subst, ⊎_elim, arith}
 use Rattle.std.proofs.Math.Path.{fun_ext}
 use Rattle.std.proofs.lemmas.List.{get_or_past}
-use Rattle.std.proofs.lemmas.Bool.{cases_eq, cases_lt, cases_Bool, both_ways, eq-eqb, ne_eqb, eqb-false, cond-true, cond-false, le-ltb}
+use Rattle.std.proofs.lemmas.Bool.{cases_eq, cases_lt, cases_Bool, both_ways, eq-eqb, ne_eqb, eqb-false, cond-true, cond-false}
 use Rattle.rules.specs.Basics.{put}
 use Rattle.rules.specs.Fractions.{Usual}
 use Rattle.rules.specs.Stamps.{Stamp, is_earlier}
-use Rattle.rules.specs.Slots.{Queue, First}
+use Rattle.rules.specs.Slots.{First}
 use Rattle.times.specs.declared.moment.Moment.{Moment}
 use Rattle.times.specs.Of.{moment_of}
 use Rattle.queues.specs.Meanings.{soonest, is_nothing}

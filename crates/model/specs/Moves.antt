@@ -1,10 +1,10 @@
 -- How certificates move, and the lines that tell it. The argument k is the present moment.
 use Rattle.std.specs.Prelude.{ℕ, suc, ◌+◌, ◌-◌, ◌*◌, ◌/◌, ◌%◌, min, max, Bool, true, false, cond, not, List, [], ◌∷◌, ◌++◌, pos, Some, None, Option, nat_lt}
 use Rattle.rules.specs.Basics.{those, the}
-use Rattle.rules.specs.Fractions.{Fraction, tick}
+use Rattle.rules.specs.Fractions.{tick}
 use Rattle.rules.specs.Stamps.{Stamp, at}
 use Rattle.rules.specs.Paths.{Axis, X, Y, Z, leg}
-use Rattle.rules.specs.Books.{Book, path, break_after, follows, BookChange, file, ride, changed}
+use Rattle.rules.specs.Books.{path, break_after, follows, BookChange, file, ride, changed}
 use Rattle.rules.specs.Boxes.{Box, Ends, ends, overlap, fails}
 use Rattle.rules.specs.Slots.{slot, leg_slot}
 use Rattle.model.specs.Halls.{Craft, Hall, with_book, with_craft, with_bit, with_slot, entered, others}

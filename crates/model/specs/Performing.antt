@@ -1,10 +1,10 @@
 -- What each call does to the state, and what it tells.
 use Rattle.std.specs.Prelude.{ℕ, [], Some, None, Option}
-use Rattle.rules.specs.Fractions.{Fraction, least}
+use Rattle.rules.specs.Fractions.{least}
 use Rattle.rules.specs.Stamps.{Stamp, at}
 use Rattle.model.specs.Halls.{Clock, quiet, due, Hall, State, together, certificate_in, next_due}
 use Rattle.model.specs.Moves.{Out, enter, leave, change}
-use Rattle.model.specs.Calls.{Change, entering, leaving, booking, Call, changing, setting, stepping, running, resting, touching, listing, asking, Reply, done, clock, stepped, ran, touches, certificate, refused, accepted, Answer, Done, only}
+use Rattle.model.specs.Calls.{Change, entering, leaving, booking, Call, changing, setting, stepping, running, resting, touching, listing, asking, Reply, done, clock, stepped, ran, touches, certificate, refused, accepted, Done, only}
 use Rattle.model.specs.Refusals.{pairs, refusal}
 use Rattle.model.specs.Runs.{Ran, step, run}
 

@@ -3,12 +3,11 @@ use Rattle.std.proofs.Common.{◌≡◌, ℕ, zero, suc, ◌+◌, ◌*◌, ◌/�
 use Rattle.std.proofs.lemmas.Bool.{eqb-true}
 use Rattle.std.proofs.lemmas.List.{take-append-drop}
 use Rattle.rules.specs.Fractions.{Fraction}
-use Rattle.rules.specs.Pages.{News, met, parted, Report, bytes, number, news_record, page_record, page_of, report_in, news_of, at_time, before_rest, reports_in, page_read}
+use Rattle.rules.specs.Pages.{News, met, parted, Report, bytes, number, news_record, page_record, page_of, report_in, at_time, before_rest, reports_in, page_read}
 use Rattle.times.specs.declared.time.Time.{Time}
 use Rattle.times.specs.Of.{time_of}
 use Rattle.pages.specs.Of.{report_of}
-use Rattle.pages.specs.declared.report.Report.{Report as Written}
-use Rattle.pages.specs.Laws.{CraftFit, ReportFits, ReportsFit, BytesFit, ReadsBack, WrittenBack, OnlyPages, NoPage, ReadInTurn}
+use Rattle.pages.specs.Laws.{ReportFits, ReportsFit, BytesFit, ReadsBack, WrittenBack, OnlyPages, NoPage, ReadInTurn}
 
 -- NUMBERS AND THEIR BYTES
 

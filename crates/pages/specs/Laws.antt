@@ -1,5 +1,5 @@
 -- Reading a page back gives the reports that were written, and only the bytes of reports can be read.
-use Rattle.std.specs.Prelude.{◌≡◌, ℕ, ◌^◌, ◌<◌, List, [], ◌∷◌, map, take, drop, Some, None, Option, ◌≢◌}
+use Rattle.std.specs.Prelude.{◌≡◌, ℕ, ◌^◌, ◌<◌, List, [], ◌∷◌, map, take, drop, Some, None, ◌≢◌}
 use Rattle.rules.specs.Pages.{News, met, parted, Report, page_of, page_read, before_rest, report_in}
 use Rattle.pages.specs.declared.report.Report.{Report as Written}
 use Rattle.pages.specs.Of.{report_of}

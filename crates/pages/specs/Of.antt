@@ -1,6 +1,5 @@
 -- The code's reports and records as values, and what writing and reading come to.
 use Rattle.std.specs.Prelude.{ℕ, ◌+◌, Bool, cond, List, [], ◌∷◌, ◌++◌, length, take, drop, Some, None, Ok, Err, Option, Result, ◌==◌, nat_le}
-use Rattle.rules.specs.Fractions.{Fraction}
 use Rattle.rules.specs.Pages.{News, met, parted, Report, page_record, report_in}
 use Rattle.times.specs.Of.{time_of}
 use Rattle.pages.specs.declared.report.Kind.{Kind}

@@ -1,11 +1,10 @@
 -- Calls below the last slot, and above it; and what the trait's laws say of what is held.
-use Rattle.std.proofs.Common.{◌≡◌, ℕ, ◌<◌, ◌≤◌, cond, Some, None, Ok, Err, Option, Result, sym, arith}
+use Rattle.std.proofs.Common.{◌≡◌, ℕ, ◌<◌, ◌≤◌, Some, None, Ok, Err, Option, sym, arith}
 use Rattle.std.proofs.lemmas.Bool.{cond-true, cond-false, lt-ltb, le-ltb}
 use Rattle.rules.specs.Basics.{put}
 use Rattle.rules.specs.Fractions.{Usual}
 use Rattle.rules.specs.Stamps.{Stamp}
 use Rattle.rules.specs.Slots.{Queue}
-use Rattle.times.specs.declared.refusal.Refusal.{Refusal}
 use Rattle.times.specs.declared.refusal.Refusal.TheVariants.{SlotRange}
 use Rattle.queues.specs.Meanings.{slot_out, answered, changed}
 use Rattle.queues.specs.Laws.{Held}

@@ -1,5 +1,5 @@
 -- The texts of answers.
-use Rattle.std.specs.Prelude.{ℕ, Bool, cond, List, ◌++◌, Some, None, Ok, Err, codes, decimal, Option, Result}
+use Rattle.std.specs.Prelude.{ℕ, Bool, List, ◌++◌, Some, None, Ok, Err, codes, decimal, Option, Result}
 use Rattle.console_write.specs.Texts.{yes_text}
 
 abbrev pub refused_text : List ℕ → ℕ → List ℕ

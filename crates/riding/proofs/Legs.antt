@@ -1,5 +1,5 @@
 -- Legs of paths added, and which questions are answered.
-use Rattle.std.proofs.Common.{◌≡◌, ℕ, zero, suc, ◌+◌, ◌^◌, ◌<◌, ◌≤◌, Bool, true, false, cond, ℤ, ◌+ℤ◌, nat_abs, Ok, Err, Option, Result, sym, refl, ap, ◌∙◌, subst, ap₂, arith}
+use Rattle.std.proofs.Common.{◌≡◌, ℕ, zero, suc, ◌^◌, ◌<◌, ◌≤◌, Bool, true, false, cond, ℤ, ◌+ℤ◌, nat_abs, Ok, Err, Option, Result, sym, refl, ap, ◌∙◌, subst, ap₂, arith}
 use native.Mathlib.Nat.{pow-succ'}
 use Rattle.rules.specs.Fractions.{Fraction, whole}
 use Rattle.rules.specs.Paths.{Axis, X, Y, Z, Line, Path, Kept, sum, leg, line_at}

@@ -1,8 +1,7 @@
 -- Divisors, and least terms by the greatest common divisor.
-use Rattle.std.proofs.Common.{◌≡◌, ℕ, zero, suc, ◌+◌, ◌-◌, ◌*◌, ◌/◌, ◌%◌, ◌<◌, ◌≤◌, sym, refl, ap, ◌∙◌, subst, mul-le-mul_right, mul_assoc, mul_comm, mul-le-mul_left, arith}
+use Rattle.std.proofs.Common.{◌≡◌, ℕ, zero, suc, ◌+◌, ◌-◌, ◌*◌, ◌/◌, ◌%◌, ◌<◌, sym, refl, ap, ◌∙◌, subst, mul_assoc, arith}
 use native.Mathlib.Nat.{div-add-mod, eq_of_mul-eq-mul_right, div-eq_of_eq-mul_left, mul-sub}
-use Rattle.rules.specs.Fractions.{Divides, Coprime, IsGcd, Least}
-use Rattle.rules.specs.Fractions.{Fraction}
+use Rattle.rules.specs.Fractions.{Divides, IsGcd, Least}
 
 pub divides_self : (k : ℕ) → Divides k k
 divides_self k = (1, omega arith)

@@ -1,8 +1,8 @@
 -- What is computed is in least terms.
-use Rattle.std.proofs.Common.{◌≡◌, ℕ, zero, suc, ◌+◌, ◌-◌, ◌*◌, ◌/◌, ◌%◌, ◌<◌, ◌≤◌, sym, refl, ap, ◌∙◌, subst, mul-le-mul_right, mod-lt, div-le_self, le_of_mul-le-mul_right, arith}
-use Rattle.rules.specs.Fractions.{Fraction, Proper, SameTime, Divides, Coprime, IsGcd, Least, gcd_in, least}
-use Rattle.rules.specs.Laws.{LeastTerms, AllLeastTerms}
-use Rattle.rules.proofs.Divide.{divides_self, divides_zero, divides_rem, divides_back, least_is}
+use Rattle.std.proofs.Common.{◌≡◌, ℕ, zero, suc, ◌+◌, ◌*◌, ◌%◌, ◌<◌, ◌≤◌, sym, mul-le-mul_right, mod-lt, div-le_self, le_of_mul-le-mul_right, arith}
+use Rattle.rules.specs.Fractions.{Fraction, IsGcd, Least, gcd_in, least}
+use Rattle.rules.specs.Laws.{AllLeastTerms}
+use Rattle.rules.proofs.Divide.{divides_zero, divides_rem, divides_back, least_is}
 use Rattle.rules.proofs.Order.{same_trans}
 use Rattle.rules.proofs.Unique.{least_unique}
 

@@ -1,5 +1,5 @@
 -- The order of fractions.
-use Rattle.std.proofs.Common.{◌≡◌, ℕ, zero, suc, ◌+◌, ◌-◌, ◌*◌, ◌<◌, ◌≤◌, Bool, true, false, ◌⊎◌, sym, refl, ap, ◌∙◌, subst, inl, inr, mul-le-mul_right, lt_of_mul-lt-mul_right, mul-le-mul_left, mul-pos, le_of_mul-le-mul_right, arith}
+use Rattle.std.proofs.Common.{◌≡◌, ℕ, ◌+◌, ◌-◌, ◌*◌, ◌<◌, ◌≤◌, ap, mul-le-mul_right, lt_of_mul-lt-mul_right, le_of_mul-le-mul_right, arith}
 use native.Mathlib.Nat.{eq_of_mul-eq-mul_right}
 use Rattle.rules.specs.Fractions.{Fraction, Proper, Before, NotAfter, SameTime}
 

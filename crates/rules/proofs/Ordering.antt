@@ -1,10 +1,10 @@
 -- Times and moments are totally ordered, and the tests decide the order.
-use Rattle.std.proofs.Common.{◌≡◌, ℕ, zero, suc, ◌+◌, ◌*◌, ◌<◌, ◌≤◌, Bool, true, false, not, ◌&&◌, ◌||◌, ltb, ◌⊎◌, Decides, sym, refl, ap, ◌∙◌, subst, inl, inr, ⊎_elim, arith, ltb-false, ltb-true, le-ltb, lt-ltb}
+use Rattle.std.proofs.Common.{◌≡◌, ℕ, ◌*◌, ◌<◌, Bool, true, false, not, ◌&&◌, ◌||◌, ltb, ◌⊎◌, Decides, sym, refl, ap, inl, inr, ⊎_elim, arith, le-ltb, lt-ltb}
 use native.Mathlib.Decide.{dec_lt}
-use Rattle.std.proofs.lemmas.Bool.Decides.{nat_tests, Decides-ltb}
-use Rattle.rules.specs.Fractions.{Fraction, Proper, Before, SameTime, is_before}
-use Rattle.rules.specs.Stamps.{Stamp, Earlier, is_earlier, side}
-use Rattle.rules.specs.Laws.{TestsRight, Ordered, TimesOrdered, SameStamp, StampsOrdered}
+use Rattle.std.proofs.lemmas.Bool.Decides.{Decides-ltb}
+use Rattle.rules.specs.Fractions.{Fraction, Before, SameTime}
+use Rattle.rules.specs.Stamps.{Stamp, Earlier, side}
+use Rattle.rules.specs.Laws.{TestsRight, TimesOrdered, SameStamp, StampsOrdered}
 use Rattle.rules.proofs.Order.{before_trans}
 use Rattle.rules.proofs.Stamped.{asym, earlier_trans}
 

@@ -1,7 +1,7 @@
 -- The order of moments.
-use Rattle.std.proofs.Common.{◌≡◌, ℕ, zero, suc, ◌+◌, ◌-◌, ◌*◌, ◌<◌, ◌≤◌, Bool, true, false, ◌⊎◌, sym, refl, ap, ◌∙◌, subst, inl, inr, ⊎_elim, arith}
+use Rattle.std.proofs.Common.{◌≡◌, ℕ, ◌*◌, ◌<◌, ◌≤◌, Bool, true, false, ◌⊎◌, sym, refl, ap, inl, inr, ⊎_elim, arith}
 use native.Mathlib.Decide.{dec_le, dec_lt}
-use Rattle.rules.specs.Fractions.{Fraction, Proper, Before, NotAfter, SameTime}
+use Rattle.rules.specs.Fractions.{Fraction, Proper, Before, SameTime}
 use Rattle.rules.specs.Stamps.{Stamp, Earlier, NotEarlier, side}
 use Rattle.rules.proofs.Order.{before_trans, not_after_before, before_not_after, same_trans}
 

@@ -1,7 +1,6 @@
 -- A fraction has one form in least terms.
-use Rattle.std.proofs.Common.{◌≡◌, ℕ, zero, suc, ◌+◌, ◌-◌, ◌*◌, ◌<◌, ◌≤◌, Bool, true, false, ◌⊎◌, sym, refl, ap, ◌∙◌, subst, inl, inr, ⊎_elim, mul-le-mul_right, lt_of_mul-lt-mul_right, mul-le-mul_left, le_of_mul-le-mul_right, arith}
-use native.Mathlib.Decide.{dec_le, dec_lt}
-use native.Mathlib.Nat.{eq_of_mul-eq-mul_right}
+use Rattle.std.proofs.Common.{◌≡◌, ℕ, zero, suc, ◌+◌, ◌-◌, ◌*◌, ◌<◌, ◌≤◌, sym, refl, ap, ◌∙◌, subst, mul-le-mul_right, lt_of_mul-lt-mul_right, le_of_mul-le-mul_right, arith}
+use native.Mathlib.Decide.{dec_le}
 use Rattle.rules.specs.Fractions.{Fraction, Proper, SameTime, Divides, Coprime}
 use Rattle.rules.proofs.Divide.{divides_self, divides_zero, divides_sum}
 

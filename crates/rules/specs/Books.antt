@@ -1,5 +1,5 @@
 -- Flight books: own paths, seats by level, the paths that come of them, and who follows whom.
-use Rattle.std.specs.Prelude.{ℕ, zero, suc, ◌*◌, ◌^◌, ◌≤◌, Bool, true, false, cond, not, ◌&&◌, ◌||◌, List, [], ◌∷◌, Some, None, Option, ◌==◌, nat_le, nat_lt}
+use Rattle.std.specs.Prelude.{ℕ, zero, suc, ◌*◌, ◌^◌, ◌≤◌, Bool, false, cond, not, ◌||◌, List, [], ◌∷◌, Some, None, Option, ◌==◌, nat_le, nat_lt}
 use Rattle.rules.specs.Basics.{put, first_fit}
 use Rattle.rules.specs.Fractions.{Fraction}
 use Rattle.rules.specs.Paths.{Path, sum, standing, first_after, Kept}

@@ -1,5 +1,5 @@
 -- Boxes, their ends, overlap at a moment, the first wrong moment of a bit, touching, meeting and parting.
-use Rattle.std.specs.Prelude.{◌≡◌, ℕ, ◌*◌, Bool, true, false, cond, not, ◌&&◌, ◌||◌, List, [], ◌∷◌, ◌++◌, ℤ, pos, ◌+ℤ◌, ◌-ℤ◌, ◌*ℤ◌, ◌≤ℤ◌, Some, None, Option, int_le, int_lt, nat_le, unsigned_abs}
+use Rattle.std.specs.Prelude.{◌≡◌, ℕ, Bool, true, false, cond, not, ◌&&◌, ◌||◌, List, [], ◌∷◌, ◌++◌, ℤ, pos, ◌+ℤ◌, ◌-ℤ◌, ◌*ℤ◌, ◌≤ℤ◌, Some, None, Option, int_le, int_lt, nat_le, unsigned_abs}
 use Rattle.rules.specs.Basics.{those}
 use Rattle.rules.specs.Fractions.{Fraction, Proper, Before, NotAfter, Throughout, tick, least, no_time}
 use Rattle.rules.specs.Stamps.{Stamp, at, just_after, is_earlier, earliest}

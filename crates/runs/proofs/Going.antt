@@ -1,11 +1,11 @@
 -- A run, step by step.
-use Rattle.std.proofs.Common.{◌≡◌, ℕ, suc, ◌+◌, ◌-◌, ◌<◌, ◌≤◌, Bool, true, false, cond, not, ◌||◌, ltb, List, [], ◌∷◌, ◌++◌, length, drop, Some, None, Option, sym, refl, ap, ◌∙◌, subst, add-zero, zero-add, arith}
+use Rattle.std.proofs.Common.{◌≡◌, ℕ, suc, ◌+◌, ◌-◌, ◌<◌, ◌≤◌, List, [], ◌++◌, length, drop, Some, None, Option, sym, refl, ap, ◌∙◌, subst, add-zero, zero-add, arith}
 use Rattle.std.proofs.lemmas.List.{append-nil, append_assoc, length-append}
 use Rattle.rules.specs.Fractions.{Fraction}
 use Rattle.rules.specs.Stamps.{Stamp}
 use Rattle.model.specs.Halls.{Hall, left, next_due}
-use Rattle.model.specs.Moves.{Out, fire}
-use Rattle.model.specs.Runs.{Step, Ran, step, records, and_then, ended_with, run, run_on, ending}
+use Rattle.model.specs.Moves.{fire}
+use Rattle.model.specs.Runs.{Step, Ran, step, records, and_then, ended_with, run, run_on}
 use Rattle.floor_laws.specs.Writing.{Wrote, Fits, written}
 use Rattle.floor_laws.proofs.Writes.{written_then, written_none, written_start}
 use Rattle.accounts.proofs.Counts.{fire_within}

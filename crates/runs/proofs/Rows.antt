@@ -1,11 +1,11 @@
 -- The list of touching pairs, entry by entry and row by row.
-use Rattle.std.proofs.Common.{◌≡◌, ℕ, zero, suc, ◌+◌, ◌-◌, ◌*◌, ◌<◌, ◌≤◌, Bool, true, false, cond, ◌&&◌, ltb, List, [], ◌∷◌, ◌++◌, map, length, drop, set, sym, refl, ap, ◌∙◌, subst, add-zero, zero-add, add-one, arith}
+use Rattle.std.proofs.Common.{◌≡◌, ℕ, zero, suc, ◌+◌, ◌-◌, ◌<◌, ◌≤◌, Bool, true, false, cond, ◌&&◌, ltb, List, [], ◌∷◌, ◌++◌, map, length, drop, set, sym, refl, ap, ◌∙◌, subst, add-zero, zero-add, add-one, arith}
 use Rattle.std.proofs.lemmas.List.{append-nil, append_assoc, length-append}
 use Rattle.rules.specs.Basics.{those, joined, below}
 use Rattle.model.specs.Halls.{Hall, in_hall, together, all_craft}
 use Rattle.model.specs.Refusals.{pairs, pairs_of}
 use Rattle.floor_laws.specs.Writing.{written}
-use Rattle.floor_laws.proofs.Writes.{written_then, written_one, written_none, written_start, written_length}
+use Rattle.floor_laws.proofs.Writes.{written_then, written_one, written_start, written_length}
 use Rattle.accounts.proofs.Puts.{those_append, map_append}
 use Rattle.runs.specs.Listing.{listed, entry, row_with, row, rows_of, Listed}
 

@@ -1,16 +1,15 @@
 -- What a step tells, by the bits before it.
-use Rattle.std.proofs.Common.{◌≡◌, ℕ, ◌<◌, ◌≤◌, Bool, true, false, cond, not, ◌&&◌, ◌||◌, ltb, leb, Some, None, Option, sym, refl, ap, ◌∙◌, subst, ⊎_elim, arith}
+use Rattle.std.proofs.Common.{◌≡◌, ℕ, ◌<◌, ◌≤◌, Bool, true, false, cond, not, ◌&&◌, ◌||◌, ltb, None, sym, refl, ap, ◌∙◌, subst, ⊎_elim, arith}
 use Rattle.std.proofs.lemmas.Bool.{lt-ltb, le-ltb, le-leb, lt-leb, ltb-true, ltb-false, cases_lt}
 use Rattle.rules.specs.Basics.{put}
 use Rattle.rules.specs.Stamps.{Stamp}
 use Rattle.rules.specs.Paths.{Axis, X, Y, Z}
 use Rattle.rules.specs.Slots.{slot}
-use Rattle.rules.specs.Pages.{News}
 use Rattle.geometry.specs.declared.axis.Axis.{Axis as CodeAxis}
 use Rattle.geometry.specs.declared.axis.Axis.TheVariants as code
 use Rattle.geometry.specs.Of.{axis_of as model_axis}
 use Rattle.model.specs.Halls.{Hall, together}
-use Rattle.model.specs.Moves.{Out, fire, fire_kind, take_away, fired, axis_of, lower_of, higher_of}
+use Rattle.model.specs.Moves.{fire, fire_kind, take_away, fired, axis_of, lower_of, higher_of}
 use Rattle.model.specs.Runs.{news, news_in, step}
 use Rattle.accounts.proofs.Puts.{put_here, put_other}
 use Rattle.runs.specs.declared.encounters.Certificate.{Certificate}

@@ -1,5 +1,5 @@
 -- The hall's own tables as functions.
-use Rattle.std.specs.Prelude.{ℕ, suc, ◌≤◌, Bool, false, List, Some, None, Option, slice_index}
+use Rattle.std.specs.Prelude.{ℕ, ◌≤◌, Bool, false, List, None, Option, slice_index}
 use Rattle.rules.specs.Basics.{put}
 use Rattle.model.specs.Halls.{Craft}
 

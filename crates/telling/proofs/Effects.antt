@@ -3,7 +3,7 @@ use Rattle.std.proofs.Common.{◌≡◌, ℕ, min, max, Bool, false, ◌⊎◌, 
 use mathlib.Core.List.Memᴰ
 use Rattle.rules.specs.Basics.{◌∈◌, put, the}
 use Rattle.rules.specs.Stamps.{Stamp}
-use Rattle.rules.specs.Paths.{Axis, X, Y, Z, leg}
+use Rattle.rules.specs.Paths.{Axis, X, Y, Z}
 use Rattle.rules.specs.Books.{Book}
 use Rattle.rules.specs.Boxes.{Ends, ends, overlap, fails}
 use Rattle.rules.specs.Slots.{slot}

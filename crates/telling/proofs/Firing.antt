@@ -5,7 +5,7 @@ use Rattle.rules.specs.Fractions.{Usual}
 use Rattle.rules.specs.Stamps.{Stamp}
 use Rattle.rules.specs.Paths.{Axis, leg, Kept}
 use Rattle.rules.specs.Books.{path, break_after}
-use Rattle.rules.specs.Slots.{slot, leg_slot, first}
+use Rattle.rules.specs.Slots.{slot, leg_slot}
 use Rattle.model.specs.Halls.{Craft, Hall, in_hall, others}
 use Rattle.model.specs.Moves.{nobody, craft_of, at_break}
 use Rattle.events.specs.Machine.{Sky, flies, Pair, In, Certified, Flips, Rereads}

@@ -1,9 +1,9 @@
 -- Times of the code: what their fields say, and that equal values have equal fields.
-use Rattle.std.proofs.Common.{◌≡◌, ℕ, ◌+◌, ◌*◌, ◌/◌, ◌<◌, ◌≤◌, Bool, true, false, eqb, ltb, ◌⊎◌, Ok, Err, sym, refl, ap, ◌∙◌, subst, div-le_self, arith, le-ltb, ne_eqb}
+use Rattle.std.proofs.Common.{◌≡◌, ℕ, ◌*◌, ◌/◌, ◌<◌, ◌≤◌, false, eqb, ltb, Ok, ap, div-le_self, arith, le-ltb, ne_eqb}
 use mathlib.Core.HLevel.{is_prop→PathP, Π_prop, →_prop}
 use native.Mathlib.Bridge.{le_prop}
 use native.Mathlib.Nat.{ℕ_set}
-use Rattle.rules.specs.Fractions.{Fraction, SameTime, Divides, Coprime, IsGcd, Least, least, Usual, time_made}
+use Rattle.rules.specs.Fractions.{Fraction, SameTime, Coprime, IsGcd, Least, least, time_made}
 use Rattle.rules.specs.Laws.{SameStamp}
 use Rattle.rules.proofs.Divide.{one_divides, least_is}
 use Rattle.rules.proofs.Made.{least_right, least_one, least_inside}

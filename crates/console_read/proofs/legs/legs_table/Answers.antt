@@ -1,7 +1,7 @@
-use Rattle.std.proofs.Common.{◌≡◌, ℕ, ◌+◌, ◌-◌, ◌<◌, ◌≤◌, List, length, take, drop, set, replicate, Some, None, Option, sym, ap, ◌∙◌, subst, arith}
+use Rattle.std.proofs.Common.{◌≡◌, ℕ, ◌+◌, ◌-◌, ◌<◌, List, length, take, drop, set, replicate, Some, Option, sym, ap, ◌∙◌, subst, arith}
 use Rattle.std.proofs.lemmas.List.{length-set, take_more_set}
 use Rattle.console_text.specs.Texts.{words}
-use Rattle.console_read.specs.Shapes.{legs_text, leg_text, and_then, table, blank}
+use Rattle.console_read.specs.Shapes.{legs_text, and_then, table, blank}
 use Rattle.console_read.specs.declared.command.LegText.{LegText}
 use Rattle.console_read.proofs.Table.{legs_more, legs_stop, blank_less, table_done}
 use Rattle.console_read.proofs.legs.legs_table.Goals as goal

@@ -1,7 +1,7 @@
-use Rattle.std.proofs.Common.{◌≡◌, ℕ, ◌≤◌, eqb, ltb, List, length, sym, ap, ◌∙◌, arith}
+use Rattle.std.proofs.Common.{ℕ, ◌≤◌, eqb, ltb, List, length, sym, ap, ◌∙◌, arith}
 use Rattle.std.proofs.lemmas.Bool.{cond-false, le-ltb, ne_eqb}
 use Rattle.console_text.specs.Texts.{before_comment, words}
-use Rattle.console_read.specs.Parsing.{told_of, ready, words_read, parsed_of}
+use Rattle.console_read.specs.Parsing.{told_of, ready, words_read}
 use Rattle.console_read.specs.declared.parsing.Parsed.TheVariants.{Blank, Unreadable}
 use Rattle.console_read.proofs.parsing.parse.Goals as goal
 

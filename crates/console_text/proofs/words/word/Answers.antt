@@ -1,4 +1,4 @@
-use Rattle.std.proofs.Common.{◌≡◌, ℕ, List, [], get_or, sym, ap, ◌∙◌, arith}
+use Rattle.std.proofs.Common.{◌≡◌, ℕ, [], get_or, sym, ap, ◌∙◌, arith}
 use Rattle.console_text.specs.Texts.{words}
 use Rattle.console_text.proofs.Scan.{none_left, next_left, here_left}
 use Rattle.console_text.proofs.words.word.Goals as goal

@@ -1,4 +1,4 @@
-use Rattle.std.proofs.Common.{◌≡◌, ℕ, eqb, List, ◌++◌, length, string_bytes, codes, sym, ap, ◌∙◌}
+use Rattle.std.proofs.Common.{ℕ, eqb, List, ◌++◌, length, string_bytes, codes, sym, ◌∙◌}
 use Rattle.std.proofs.lemmas.Bool.{eq-eqb, ne_eqb, cond-true, cond-false}
 use Rattle.std.specs.List.{flat_map}
 use Rattle.console_write.specs.Texts.{entry_text}

@@ -1,4 +1,4 @@
-use Rattle.std.proofs.Common.{◌≡◌, ℤ, ap, ◌∙◌}
+use Rattle.std.proofs.Common.{ℤ, ap, ◌∙◌}
 use Rattle.rules.specs.Paths.{Axis}
 use Rattle.plans.specs.Of.{begun}
 use Rattle.rehearsal.proofs.filing.begin.Goals as goal

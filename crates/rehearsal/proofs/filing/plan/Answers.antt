@@ -1,4 +1,4 @@
-use Rattle.std.proofs.Common.{◌≡◌, min, List, take, ap, ◌∙◌}
+use Rattle.std.proofs.Common.{min, List, take, ap, ◌∙◌}
 use Rattle.rules.specs.Plans.{Plan as FlightPlan}
 use Rattle.plans.specs.Of.{plan_of}
 use Rattle.console_read.specs.declared.command.LegText.{LegText}

@@ -1,4 +1,4 @@
-use Rattle.std.proofs.Common.{◌≡◌, arith}
+use Rattle.std.proofs.Common.{arith}
 use borrow.Author.Differences.{ints}
 use Rattle.plans.proofs.Sizes.{pair_≡}
 use Rattle.riding.proofs.sums.add.Goals as goal

@@ -1,4 +1,4 @@
-use Rattle.std.proofs.Common.{◌≡◌, ℕ, ◌+◌, ◌≤◌, List, length, sym, refl, ap, ◌∙◌, arith}
+use Rattle.std.proofs.Common.{ℕ, ◌+◌, List, length, sym, ap, ◌∙◌, arith}
 use Rattle.model.specs.Halls.{Hall}
 use Rattle.floor.specs.Of.{hall_of}
 use Rattle.runs.specs.Listing.{row_with}

@@ -1,4 +1,4 @@
-use Rattle.std.proofs.Common.{◌≡◌, ℕ, ◌+◌, ◌<◌, ◌≤◌, length, sym, refl, ap, ◌∙◌, arith}
+use Rattle.std.proofs.Common.{◌≤◌, length, arith}
 use Rattle.model.specs.Halls.{Hall}
 use Rattle.model.specs.Refusals.{pairs}
 use Rattle.floor.specs.Of.{hall_of}

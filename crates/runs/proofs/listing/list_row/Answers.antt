@@ -1,4 +1,4 @@
-use Rattle.std.proofs.Common.{◌≡◌, ℕ, ◌+◌, ◌<◌, ◌≤◌, List, length, set, sym, refl, ap, ◌∙◌, add-zero, add_assoc, arith}
+use Rattle.std.proofs.Common.{ℕ, ◌+◌, List, length, set, sym, ap, ◌∙◌, add-zero, add_assoc, arith}
 use Rattle.model.specs.Halls.{Hall}
 use Rattle.floor_laws.specs.Writing.{written}
 use Rattle.floor_laws.proofs.Writes.{written_none}

@@ -1,4 +1,4 @@
-use Rattle.std.proofs.Common.{◌≡◌, ℕ, Bool, true, false, ltb, sym, refl, ap, ◌∙◌}
+use Rattle.std.proofs.Common.{ℕ, ltb, sym, ap, ◌∙◌}
 use Rattle.times.specs.Of.{time_of, moment_of}
 use Rattle.queues.specs.Meanings.{first_told}
 use Rattle.runs.proofs.Nexts.{nothing_due, no_room, no_numbers, goes_next}

@@ -1,4 +1,4 @@
-use Rattle.std.proofs.Common.{◌≡◌, ℕ, ◌+◌, List, [], length, sym, refl, ap, ◌∙◌, add-zero}
+use Rattle.std.proofs.Common.{◌≡◌, ℕ, ◌+◌, List, [], length, sym, ap, ◌∙◌, add-zero}
 use Rattle.times.specs.Of.{time_of}
 use Rattle.model.specs.Runs.{records}
 use Rattle.floor_laws.specs.Writing.{written}

@@ -1,5 +1,5 @@
-use Rattle.std.proofs.Common.{◌≡◌, sym, ◌∙◌}
-use Rattle.rules.specs.Paths.{Axis, X, Y, Z}
+use Rattle.std.proofs.Common.{sym, ◌∙◌}
+use Rattle.rules.specs.Paths.{X, Y, Z}
 use Rattle.rules.specs.Slots.{slot}
 use Rattle.times.specs.Of.{moment_of}
 use Rattle.model.specs.Halls.{Hall}

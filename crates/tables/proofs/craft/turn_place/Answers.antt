@@ -1,5 +1,4 @@
-use Rattle.std.proofs.Common.{◌≡◌, ℕ, Bool, true, Some, Option, sym, refl, ap, ◌∙◌}
-use Rattle.rules.specs.Paths.{xyz}
+use Rattle.std.proofs.Common.{◌≡◌, ℕ, Some, Option, sym, ap, ◌∙◌}
 use Rattle.rules.specs.Boxes.{Box}
 use Rattle.plans.specs.Routes.{answer_of}
 use Rattle.tables.specs.Crafts.{with_legs, record_in, turned, sized}

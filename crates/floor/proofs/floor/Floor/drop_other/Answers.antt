@@ -1,4 +1,4 @@
-use Rattle.std.proofs.Common.{◌≡◌, sym, ◌∙◌}
+use Rattle.std.proofs.Common.{sym, ◌∙◌}
 use Rattle.geometry.specs.Of.{axis_of}
 use Rattle.model.specs.Moves.{drop_bit}
 use Rattle.floor_laws.proofs.Loops.{other_none, other_fits, other_some}

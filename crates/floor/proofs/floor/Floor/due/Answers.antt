@@ -1,4 +1,3 @@
-use Rattle.std.proofs.Common.{◌≡◌}
 use Rattle.queues.specs.Laws.{Held}
 use Rattle.times.specs.Of.{time_of}
 use Rattle.floor.proofs.Dues.{due_is, due_below}

@@ -1,4 +1,4 @@
-use Rattle.std.proofs.Common.{◌≡◌, ℕ, ◌<◌, ◌≤◌, get_or, is_some, None, sym, refl, arith}
+use Rattle.std.proofs.Common.{refl, arith}
 use Rattle.times.specs.Of.{moment_of}
 use Rattle.model.specs.Moves.{enter}
 use Rattle.floor_laws.proofs.Loops.{loop_none, so_room, so_step}

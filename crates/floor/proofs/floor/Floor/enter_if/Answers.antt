@@ -1,8 +1,4 @@
-use Rattle.std.proofs.Common.{◌≡◌, Bool, true, false, is_some, Option, sym, refl, ap, ◌∙◌, subst}
-use Rattle.rules.specs.Boxes.{Box}
 use Rattle.times.specs.Of.{moment_of}
-use Rattle.model.specs.Moves.{enter}
-use Rattle.tables.specs.declared.craft.CraftRecord.{CraftRecord}
 use Rattle.floor.proofs.Saving.{kept_fits, kept_wrote, kept_silent}
 use Rattle.floor.proofs.floor.Floor.enter_if.Goals as goal
 

@@ -1,4 +1,4 @@
-use Rattle.std.proofs.Common.{◌≡◌, sym, ◌∙◌}
+use Rattle.std.proofs.Common.{sym, ◌∙◌}
 use Rattle.geometry.specs.Of.{axis_of}
 use Rattle.times.specs.Of.{moment_of}
 use Rattle.model.specs.Moves.{enter_bit}

@@ -1,9 +1,8 @@
-use Rattle.std.proofs.Common.{◌≡◌, refl}
 use Rattle.rules.specs.Slots.{leg_slot}
 use Rattle.times.specs.Of.{moment_of}
 use Rattle.model.specs.Halls.{others}
 use Rattle.model.specs.Moves.{on_axes, at_break}
-use Rattle.floor_laws.specs.Reading.{enters, reading}
+use Rattle.floor_laws.specs.Reading.{enters}
 use Rattle.floor_laws.proofs.Legs.{then_first, then_second, then_both}
 use Rattle.floor.specs.Of.{hall_of}
 use Rattle.floor.proofs.floor.Floor.enter_read.Goals as goal

@@ -1,4 +1,4 @@
-use Rattle.std.proofs.Common.{◌≡◌, refl, ap}
+use Rattle.std.proofs.Common.{ap}
 use Rattle.rules.specs.Books.{Book}
 use Rattle.times.specs.Of.{moment_of}
 use Rattle.plans.specs.Of.{plan_of}

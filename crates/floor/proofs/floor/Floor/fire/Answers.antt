@@ -1,4 +1,4 @@
-use Rattle.std.proofs.Common.{◌-◌, ◌<◌, ◌≤◌, arith}
+use Rattle.std.proofs.Common.{arith}
 use Rattle.times.specs.Of.{moment_of}
 use Rattle.floor.proofs.Firing.{fire_takes, fire_fits_bit, fire_fits_leg, fire_wrote_bit, fire_wrote_leg}
 use Rattle.floor.proofs.floor.Floor.fire.Goals as goal

@@ -1,4 +1,3 @@
-use Rattle.std.proofs.Common.{◌≡◌, sym, ◌∙◌}
 use Rattle.times.specs.Of.{moment_of}
 use Rattle.floor.proofs.Granting.{bit_fired}
 use Rattle.floor.proofs.floor.Floor.fire_bit.Goals as goal

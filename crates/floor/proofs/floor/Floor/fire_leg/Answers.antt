@@ -1,11 +1,9 @@
-use Rattle.std.proofs.Common.{◌≡◌, ℕ, ◌-◌, ◌<◌, ◌≤◌, Option, sym, refl, ap, ◌∙◌, arith}
+use Rattle.std.proofs.Common.{ℕ, Option, refl, ap}
 use Rattle.rules.specs.Paths.{Axis, Line}
-use Rattle.geometry.specs.Of.{box_of}
 use Rattle.times.specs.Of.{moment_of, time_of}
-use Rattle.times.specs.Refusals.{number_of}
 use Rattle.plans.specs.Routes.{answer_of}
 use Rattle.model.specs.Moves.{craft_of}
-use Rattle.floor.specs.Of.{hall_of, joined}
+use Rattle.floor.specs.Of.{hall_of}
 use Rattle.floor.proofs.Firing.{leg_is, no_refusal, break_soon, read_firing, leg_fits, leg_wrote}
 use Rattle.floor.proofs.floor.Floor.fire_leg.Goals as goal
 

@@ -1,4 +1,4 @@
-use Rattle.std.proofs.Common.{◌≡◌, ℕ, ◌<◌, ◌≤◌, refl, arith}
+use Rattle.std.proofs.Common.{arith}
 use Rattle.floor.proofs.Saving.{saved_none, saved_more, saved_all}
 use Rattle.tables.proofs.Places.{sized_none, sized_set}
 use Rattle.floor.proofs.floor.Floor.followers.Goals as goal

@@ -1,7 +1,5 @@
-use Rattle.std.proofs.Common.{◌≡◌, None, sym, refl, ap, ◌∙◌}
-use Rattle.model.specs.Halls.{Hall, with_craft}
-use Rattle.tables.specs.Tables.{Table}
-use Rattle.floor.specs.Of.{hall_of, joined}
+use Rattle.std.proofs.Common.{ap}
+use Rattle.floor.specs.Of.{joined}
 use Rattle.floor.proofs.Firing.{leave_drops, leave_takes, leave_wrote}
 use Rattle.floor.proofs.floor.Floor.leave.Goals as goal
 

@@ -1,4 +1,4 @@
-use Rattle.std.proofs.Common.{◌≡◌, ℕ, ◌<◌, ◌≤◌, sym, arith}
+use Rattle.std.proofs.Common.{sym, arith}
 use Rattle.model.specs.Moves.{leave}
 use Rattle.floor_laws.proofs.Loops.{loop_none, so_room, so_step}
 use Rattle.floor_laws.proofs.Moving.{leave_grows}

@@ -1,6 +1,6 @@
-use Rattle.std.proofs.Common.{◌≡◌, refl, ap, ◌∙◌, ap₂}
+use Rattle.std.proofs.Common.{ap, ◌∙◌, ap₂}
 use Rattle.rules.specs.Paths.{Line}
-use Rattle.rules.specs.Boxes.{Box, Ends, ends}
+use Rattle.rules.specs.Boxes.{Box, ends}
 use Rattle.geometry.specs.Of.{axis_of}
 use Rattle.model.specs.Halls.{Craft}
 use Rattle.floor.proofs.floor.Floor.span.Goals as goal

@@ -1,4 +1,4 @@
-use Rattle.std.proofs.Common.{◌≡◌, sym, ap, ◌∙◌}
+use Rattle.std.proofs.Common.{sym, ap, ◌∙◌}
 use Rattle.rules.specs.Stamps.{at}
 use Rattle.times.specs.Of.{time_of, moment_of}
 use Rattle.geometry.specs.Of.{sizes, box_of, box_told}

@@ -1,4 +1,4 @@
-use Rattle.std.proofs.Common.{◌≡◌, sym, ap, ◌∙◌}
+use Rattle.std.proofs.Common.{sym, ap, ◌∙◌}
 use Rattle.rules.specs.Books.{file}
 use Rattle.plans.specs.Of.{plan_of}
 use Rattle.rules.specs.Stamps.{at}

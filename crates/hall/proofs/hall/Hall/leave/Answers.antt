@@ -1,4 +1,4 @@
-use Rattle.std.proofs.Common.{◌≡◌, sym, ap, ◌∙◌}
+use Rattle.std.proofs.Common.{sym, ap, ◌∙◌}
 use Rattle.times.specs.Of.{time_of}
 use Rattle.hall.specs.Of.{state_of}
 use Rattle.hall.specs.Told.{refused_by}

@@ -1,7 +1,6 @@
-use Rattle.std.proofs.Common.{◌≡◌, ℕ, ◌<◌, ◌≤◌, not, sym, refl, ap, ◌∙◌, subst}
-use Rattle.rules.specs.Fractions.{Fraction}
+use Rattle.std.proofs.Common.{ℕ, ◌<◌, ◌≤◌, sym, refl, ap, ◌∙◌, subst}
 use Rattle.queues.proofs.Changed.{held_by}
-use Rattle.model.specs.Halls.{Clock, quiet}
+use Rattle.model.specs.Halls.{quiet}
 use Rattle.telling.proofs.Promises.{promise}
 use Rattle.hall.proofs.Shows.{small_show}
 use Rattle.hall.proofs.Clocks.{open_scale, open_holds, open_none, opened_is}

@@ -1,4 +1,4 @@
-use Rattle.std.proofs.Common.{◌≡◌, ℕ, ◌<◌, ◌≤◌, not, is_some, sym, ap, ◌∙◌, subst}
+use Rattle.std.proofs.Common.{ℕ, ◌<◌, ◌≤◌, not, is_some, sym, ap, ◌∙◌, subst}
 use Rattle.times.specs.Of.{time_of}
 use Rattle.hall.specs.Of.{state_of}
 use Rattle.hall.proofs.Clocks.{told_some}

@@ -1,4 +1,4 @@
-use Rattle.std.proofs.Common.{◌≡◌, not, is_some, sym, refl, ap, ◌∙◌}
+use Rattle.std.proofs.Common.{not, is_some, sym, refl, ap, ◌∙◌}
 use Rattle.times.specs.Of.{time_of}
 use Rattle.model.specs.Calls.{resting}
 use Rattle.hall.specs.Of.{state_of}

@@ -1,4 +1,4 @@
-use Rattle.std.proofs.Common.{◌≡◌, not, refl, ap, ◌∙◌}
+use Rattle.std.proofs.Common.{not, refl, ap, ◌∙◌}
 use Rattle.times.specs.Of.{time_of}
 use Rattle.hall.specs.Of.{state_of}
 use Rattle.hall.proofs.Stepping.{run_wrong, run_wrote}

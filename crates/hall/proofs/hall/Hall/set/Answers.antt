@@ -1,4 +1,4 @@
-use Rattle.std.proofs.Common.{◌≡◌, not, sym, refl, ap, ◌∙◌}
+use Rattle.std.proofs.Common.{not, sym, refl, ap, ◌∙◌}
 use Rattle.times.specs.Of.{time_of, time_told}
 use Rattle.model.specs.Calls.{setting}
 use Rattle.hall.specs.Of.{state_of}

@@ -1,4 +1,4 @@
-use Rattle.std.proofs.Common.{◌≡◌, length, sym, ap, ◌∙◌}
+use Rattle.std.proofs.Common.{length, sym, ap, ◌∙◌}
 use Rattle.times.specs.Of.{time_of, moment_of}
 use Rattle.times.specs.Refusals.{number_of}
 use Rattle.queues.specs.Meanings.{first_told}

@@ -1,6 +1,6 @@
-use Rattle.std.proofs.Common.{◌≡◌, ℕ, false, eqb, List, [], ◌∷◌, length, take, drop, sym, refl, ap, ◌∙◌, arith}
+use Rattle.std.proofs.Common.{◌≡◌, ℕ, false, eqb, List, [], ◌∷◌, length, take, sym, refl, ap, ◌∙◌, arith}
 use Rattle.std.proofs.lemmas.List.{take_rest}
-use Rattle.rules.specs.Pages.{Report, report_in}
+use Rattle.rules.specs.Pages.{report_in}
 use Rattle.pages.specs.Of.{Found, found, found_as, next_in, left_after, record_told}
 use Rattle.pages.proofs.read.Reader.next.Goals as goal
 

@@ -1,4 +1,4 @@
-use Rattle.std.proofs.Common.{◌≡◌, arith}
+use Rattle.std.proofs.Common.{arith}
 use borrow.Author.Differences.{ints}
 use Rattle.plans.proofs.Sizes.{pair_≡}
 use Rattle.plans.proofs.route.lines.add.Goals as goal

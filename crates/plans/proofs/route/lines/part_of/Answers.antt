@@ -1,4 +1,4 @@
-use Rattle.std.proofs.Common.{◌≡◌, ◌-◌, sym, refl, ◌∙◌, arith, w16}
+use Rattle.std.proofs.Common.{◌-◌, sym, refl, ◌∙◌, arith, w16}
 use Rattle.std.proofs.lemmas.Int.{to_z-of_z}
 use Rattle.plans.proofs.Sizes.{pair_≡}
 use Rattle.plans.proofs.Casts.{way_fits, way_is, minus_fits, minus_is, back_is, line_during, line_after}

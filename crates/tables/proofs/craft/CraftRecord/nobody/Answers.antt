@@ -1,7 +1,4 @@
-use Rattle.std.proofs.Common.{◌≡◌, ℕ, pos, refl, ap₂}
-use Rattle.rules.specs.Paths.{Axis, Line, xyz}
-use Rattle.rules.specs.Boxes.{Box}
-use Rattle.tables.specs.Crafts.{with_legs}
+use Rattle.std.proofs.Common.{ℕ, pos, refl}
 use Rattle.tables.proofs.Places.{xyz_same}
 use Rattle.tables.proofs.craft.CraftRecord.nobody.Goals as goal
 

@@ -1,4 +1,4 @@
-use Rattle.std.proofs.Common.{ℕ, ◌+◌, ◌<◌, length, arith, rules}
+use Rattle.std.proofs.Common.{◌+◌, ◌<◌, length, arith, rules}
 use Rattle.tables.proofs.Places.{granted_set, granted_up}
 use Rattle.tables.proofs.tables.Tables.grant.Goals as goal
 

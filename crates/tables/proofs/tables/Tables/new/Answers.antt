@@ -1,4 +1,4 @@
-use Rattle.std.proofs.Common.{◌≡◌, ℕ, Bool, false, None, Option, refl, arith}
+use Rattle.std.proofs.Common.{ℕ, Bool, false, None, Option, arith}
 use Rattle.std.proofs.lemmas.List.{length-replicate}
 use Rattle.tables.specs.declared.craft.CraftRecord.{CraftRecord}
 use Rattle.tables.specs.Crafts.{record_in}

@@ -1,6 +1,5 @@
-use Rattle.std.proofs.Common.{◌≡◌, Option, sym, refl, ap, ◌∙◌}
+use Rattle.std.proofs.Common.{refl, ap, ◌∙◌}
 use Rattle.rules.specs.Basics.{the}
-use Rattle.model.specs.Halls.{Craft}
 use Rattle.model.specs.Moves.{nobody}
 use Rattle.tables.proofs.tables.Tables.record.Goals as goal
 

@@ -1,4 +1,4 @@
-use Rattle.std.proofs.Common.{ℕ, ◌<◌, length, arith, rules}
+use Rattle.std.proofs.Common.{◌<◌, length, arith, rules}
 use Rattle.tables.proofs.Places.{sized_set}
 use Rattle.tables.proofs.tables.Tables.set_craft.Goals as goal
 

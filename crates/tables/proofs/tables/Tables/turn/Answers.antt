@@ -1,6 +1,5 @@
-use Rattle.std.proofs.Common.{◌≡◌, ℕ, ◌<◌, length, get_or, None, Option, sym, refl, ap, ◌∙◌, arith, rules}
+use Rattle.std.proofs.Common.{◌<◌, length, get_or, None, ap, ◌∙◌, arith, rules}
 use Rattle.rules.specs.Basics.{put}
-use Rattle.model.specs.Halls.{Craft}
 use Rattle.tables.specs.Crafts.{record_in}
 use Rattle.tables.specs.Of.{table}
 use Rattle.tables.proofs.Places.{placed, craft_is, sized_set}

@@ -1,4 +1,4 @@
-use Rattle.std.proofs.Common.{◌≡◌, ℕ, ◌+◌, ◌*◌, ◌/◌, ◌<◌, ◌≤◌, div-lt_iff_lt-mul, arith}
+use Rattle.std.proofs.Common.{◌≡◌, ℕ, ◌*◌, ◌/◌, ◌<◌, ◌≤◌, div-lt_iff_lt-mul, arith}
 use Rattle.times.proofs.time.Time.whole.Goals as goal
 
 below : (n d e : ℕ) → e ≡ d → 0 < d → n ≤ 50000 * d → n / e < 65536

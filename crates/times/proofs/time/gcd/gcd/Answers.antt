@@ -1,4 +1,4 @@
-use Rattle.std.proofs.Common.{◌≡◌, ℕ, ◌<◌, sym, subst, mod-lt, arith, rules}
+use Rattle.std.proofs.Common.{ℕ, sym, subst, arith}
 use Rattle.rules.specs.Fractions.{Divides}
 use Rattle.rules.proofs.Divide.{divides_rem, divides_back, divides_zero}
 use Rattle.times.proofs.time.gcd.gcd.Goals as goal
