@@ -1,6 +1,5 @@
 //! The small show through the code, over both queues, and a formation on two layers.
 use crate::desk::{from_100, number, on_to, opened, there_and_back, wrote};
-use books::book::FlightBook;
 use books::{FlightBook, PlanBook};
 use calendar_queue::CalendarQueue;
 use heap_queue::HeapQueue;

@@ -1,8 +1,7 @@
 //! A small show through the hall's own calls, over each queue: craft 1 flies up to craft 0 and turns at tick 10, where the two boxes touch for an instant.
 #![tactic(auto)]
 
-use books::PlanBook;
-use books::book::FlightBook;
+use books::{FlightBook, PlanBook};
 use calendar_queue::CalendarQueue;
 use hall::Hall;
 use heap_queue::HeapQueue;
