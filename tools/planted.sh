@@ -1,18 +1,17 @@
 #!/usr/bin/env bash
 # Tries edits quickly: `bash tools/planted.sh CRATE..` applies each crates/CRATE/must-fail/*.edit and crates/CRATE/planted/*.edit, one at a
-# time, to a copy of the repository and checks that crate over its incremental folder. It says of each edit whether the prover refuses it,
-# with the first error's place. It is no part of the gate: `rt ci` tries the must-fail edits from nothing.
+# time, to a copy of the repository and checks that crate over what earlier checks kept. It says of each edit whether the prover refuses it,
+# with the first error's place. It is no part of the gate: `rt ci` tries the must-fail edits.
 set -u
 cd "$(dirname "$0")/.."
 here=$(pwd)
 copy=$(mktemp -d)
 trap 'rm -rf "$copy"' EXIT
-cp -r crates crates.txt "$copy/"
-[ -d target ] && cp -r target "$copy/"
-cd "$copy" && git init -q . 2>/dev/null
+tar -c --exclude=out crates crates.txt | tar -x -C "$copy"
 kept=0
 for crate in "$@"; do
-  rt dev "$crate" >"$copy/out" 2>&1 || { echo "$crate: not proved without an edit"; tail -n 3 "$copy/out"; continue; }
+  cd "$copy/crates/$crate" || exit 2
+  rt check >"$copy/out" 2>&1 || { echo "$crate: not proved without an edit"; tail -n 3 "$copy/out"; continue; }
   for edit in "$here"/crates/"$crate"/must-fail/*.edit "$here"/crates/"$crate"/planted/*.edit; do
     [ -e "$edit" ] || continue
     file=$(sed -n 's/^file: //p' "$edit")
@@ -28,11 +27,11 @@ open(path, 'w').write(text.replace(old, new))
 PY
     then
       echo "$crate/$(basename "$edit" .edit): BAD EDIT"
-    elif rt dev "$crate" >"$copy/out" 2>&1; then
+    elif rt check >"$copy/out" 2>&1; then
       echo "$crate/$(basename "$edit" .edit): STILL PROVED"
       kept=$((kept + 1))
     else
-      echo "$crate/$(basename "$edit" .edit): refused: $(grep -m1 -E 'error|no proof|not proved' "$copy/out" | sed "s,$copy/,," | cut -c1-220)"
+      echo "$crate/$(basename "$edit" .edit): refused: $(grep -v '^so far' "$copy/out" | grep -m1 -E 'error|found no proof|not proved' | sed "s,$copy/,," | cut -c1-220)"
     fi
     cp "$copy/kept" "$path"
   done
