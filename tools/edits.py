@@ -2,7 +2,7 @@
 """Which public functions have no must-fail edit in their own code?
 
 `tools/edits.py [CRATE..]` reads crates/NAME/src and crates/NAME/must-fail/*.edit. For each edit it finds the function whose text
-holds the edited line. It lists the public functions, and the methods of public impls of traits, that no edit of the gate touches,
+holds the edited line. It lists the public functions, and the methods of impls of traits, that no edit of the gate touches,
 and those that only an edit in planted/ touches. It proves nothing and is no part of the gate.
 """
 import re
@@ -11,7 +11,6 @@ from pathlib import Path
 
 ROOT = Path(__file__).resolve().parent.parent
 HEAD = re.compile(r'^(\s*)(pub(?:\([a-z]+\))? )?(?:const )?(?:extern "C" )?fn (\w+)')
-IMPL = re.compile(r'^(pub )?impl\b(.*?)(?:\bfor\b.*)?\{?\s*$')
 
 
 def functions(path):
@@ -22,7 +21,7 @@ def functions(path):
     while i < len(lines):
         line = lines[i]
         if line and not line[0].isspace():
-            impl_public = line.startswith('pub impl')
+            impl_public = bool(re.match(r'^impl\b.*\bfor\b', line))
             in_trait = bool(re.match(r'^pub trait\b|^trait\b', line))
         head = HEAD.match(line)
         if head:

@@ -50,7 +50,7 @@ fn moment_at(tick: u16) -> Option<Moment>
 
 /// The moment of a craft's first break after a time.
 fn next_cue<B: FlightBook>(book: &B, craft: u8, t: Time) -> Option<Moment>
-    ensures { stored result ≡ next_stamp (B.FlightBook.meaning book.now) craft (time_of t) }
+    ensures { stored result ≡ next_stamp (B.meaning book.now) craft (time_of t) }
 {
     match book.leg(craft, t) {
         Ok(leg) => moment_at(leg.next?),
@@ -60,7 +60,7 @@ fn next_cue<B: FlightBook>(book: &B, craft: u8, t: Time) -> Option<Moment>
 
 /// Puts each craft's first break after time 0 into the queue.
 fn load<B: FlightBook, Q: EventQueue>(book: &B, queue: &mut Q)
-    ensures { Q.EventQueue.holds queue.new ≡ loaded (B.FlightBook.meaning book.now) 64 (Q.EventQueue.holds queue.old) }
+    ensures { Q.holds queue.new ≡ loaded (B.meaning book.now) 64 (Q.holds queue.old) }
 {
     for craft in 0..64u8 {
         let _ = keep(queue, slot_of(craft), next_cue(book, craft, Time::zero()));
@@ -69,8 +69,8 @@ fn load<B: FlightBook, Q: EventQueue>(book: &B, queue: &mut Q)
 
 /// Takes the first cue off the queue, and puts the next one of its craft there.
 fn take_cue<B: FlightBook, Q: EventQueue>(book: &B, queue: &mut Q) -> Option<Cue>
-    ensures told { result ≡ cue_told (soonest (Q.EventQueue.holds queue.old)) }
-    ensures left { Q.EventQueue.holds queue.new ≡ cue_left (B.FlightBook.meaning book.now) (Q.EventQueue.holds queue.old) (soonest (Q.EventQueue.holds queue.old)) }
+    ensures told { result ≡ cue_told (soonest (Q.holds queue.old)) }
+    ensures left { Q.holds queue.new ≡ cue_left (B.meaning book.now) (Q.holds queue.old) (soonest (Q.holds queue.old)) }
 {
     let (slot, moment) = queue.first()?;
     let craft = craft_of(slot);
@@ -87,7 +87,7 @@ fn run_out<B: FlightBook, Q: EventQueue>(
     queue: &mut Q,
     sheet: &mut Vec<Cue>,
 ) -> Result<(), AllocError>
-    ensures { OnOk result (sheet.new.items ≡ sheet.old.items ++ cues_in 3200000 (B.FlightBook.meaning book.now) (Q.EventQueue.holds queue.old)) }
+    ensures { OnOk result (sheet.new.items ≡ sheet.old.items ++ cues_in 3200000 (B.meaning book.now) (Q.holds queue.old)) }
 {
     for n in 0..MOST {
         let Some(cue) = take_cue(book, queue) else {

@@ -31,7 +31,7 @@ pub struct Desk<B: FlightBook, Q: EventQueue> {
 
 /// Why no console opens: the book's scale is above 8, or the queue holds something.
 pub fn opening_refusal<B: FlightBook, Q: EventQueue>(book: &B, queue: &Q) -> Option<Refusal>
-    ensures { result ≡ opening_refusal (B.FlightBook.meaning book.now).scale (is_nothing (soonest (Q.EventQueue.holds queue.now))) }
+    ensures { result ≡ opening_refusal (B.meaning book.now).scale (is_nothing (soonest (Q.holds queue.now))) }
 {
     if book.scale() > 8 {
         return Some(Refusal::Scale);
@@ -44,7 +44,7 @@ pub fn opening_refusal<B: FlightBook, Q: EventQueue>(book: &B, queue: &Q) -> Opt
 
 /// The leg question as it is typed: the craft is looked at first, then the time.
 fn leg_asked<B: FlightBook>(book: &B, craft: u8, n: u32, d: u16) -> Result<LegAnswer, Refusal>
-    ensures { leg_told result ≡ leg_typed (B.FlightBook.meaning book.now) craft n d }
+    ensures { leg_told result ≡ leg_typed (B.meaning book.now) craft n d }
 {
     if craft >= 64 {
         return Err(Refusal::CraftRange);
@@ -67,7 +67,7 @@ impl<B: FlightBook, Q: EventQueue> Desk<B, Q> {
 
     /// Files the plan that is typed.
     fn file(&mut self, filing: &Filing, out: &mut String) -> fmt::Result
-        ensures { B.FlightBook.meaning self.new.book ≡ changed (filing_of filing.now.craft (typed_plan filing.now)) (B.FlightBook.meaning self.old.book) }
+        ensures { B.meaning self.new.book ≡ changed (filing_of filing.now.craft (typed_plan filing.now)) (B.meaning self.old.book) }
     {
         let answer = self.book.file(filing.craft, plan(filing));
         telling::change(out, "file", answer)
@@ -75,7 +75,7 @@ impl<B: FlightBook, Q: EventQueue> Desk<B, Q> {
 
     /// Sets or empties a seat.
     fn ride(&mut self, craft: u8, level: u8, carrier: Option<u8>, out: &mut String) -> fmt::Result
-        ensures { B.FlightBook.meaning self.new.book ≡ changed (seating craft level carrier) (B.FlightBook.meaning self.old.book) }
+        ensures { B.meaning self.new.book ≡ changed (seating craft level carrier) (B.meaning self.old.book) }
     {
         let answer = self.book.ride(craft, level, carrier);
         telling::change(out, "ride", answer)

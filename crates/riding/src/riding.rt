@@ -22,7 +22,7 @@ pub struct Riding<B: FlightBook> {
 impl<B: FlightBook> Riding<B> {
     /// The layer over a book, with no seat taken.
     pub fn over(below: B) -> Riding<B>
-        ensures { layered (seats_of result.seats) (B.FlightBook.meaning result.below) ≡ layered (λ _. None) (B.FlightBook.meaning below) }
+        ensures { layered (seats_of result.seats) (B.meaning result.below) ≡ layered (λ _. None) (B.meaning below) }
     {
         Riding {
             below,
@@ -33,7 +33,7 @@ impl<B: FlightBook> Riding<B> {
     /// The seat that this layer adds for a craft, if any.
     fn seat(&self, craft: u8) -> Option<u8>
         requires { craft < 64 }
-        ensures value { result ≡ added (seats_of self.now.seats) (B.FlightBook.meaning self.now.below) craft }
+        ensures value { result ≡ added (seats_of self.now.seats) (B.meaning self.now.below) craft }
         ensures range { IfSome result (λ k. k < 64) }
     {
         if self.below.scale() > 4 {
@@ -44,16 +44,16 @@ impl<B: FlightBook> Riding<B> {
 
     /// Whether a level is the one that this layer adds.
     fn is_top(&self, level: u8) -> bool
-        ensures { result ≡ (nat_le (B.FlightBook.meaning self.now.below).scale 4 && level == (B.FlightBook.meaning self.now.below).levels) }
+        ensures { result ≡ (nat_le (B.meaning self.now.below).scale 4 && level == (B.meaning self.now.below).levels) }
     {
         self.below.scale() <= 4 && level == self.below.levels()
     }
 }
 
 impl<B: FlightBook> FlightBook for Riding<B> {
-    ghost meaning = { λ r. layered (seats_of r.seats) (B.FlightBook.meaning r.below) };
+    ghost meaning = { λ r. layered (seats_of r.seats) (B.meaning r.below) };
 
-    ghost lawful = { λ r. layered_lawful (seats_of r.seats) (B.FlightBook.meaning r.below) (B.FlightBook.lawful r.below) };
+    ghost lawful = { λ r. layered_lawful (seats_of r.seats) (B.meaning r.below) (B.lawful r.below) };
 
     fn levels(&self) -> u8 {
         let levels = self.below.levels();

@@ -2,7 +2,7 @@
 ghost use Rattle.std.specs.Prelude.{◌≡◌, ◌<◌};
 ghost use Rattle.times.specs.Of.{time_of, moment_of};
 ghost use Rattle.model.specs.Moves.{fire};
-ghost use Rattle.model.specs.Runs.{step as step_of_lem};
+ghost use Rattle.model.specs.Runs.{step as step_of};
 ghost use Rattle.floor_laws.specs.Writing.{Wrote, Fits};
 ghost use Rattle.floor.specs.Of.{hall_of};
 ghost use Rattle.runs.specs.Encounters.{encounter_told};
@@ -30,7 +30,7 @@ fn foretell<B: FlightBook, Q: EventQueue>(
     slot: u16,
     moment: Moment,
 ) -> Encounter
-    ensures { encounter_told result ≡ (step_of_lem slot (moment_of moment) (hall_of B.meaning Q.holds floor.now)).news }
+    ensures { encounter_told result ≡ (step_of slot (moment_of moment) (hall_of B.meaning Q.holds floor.now)).news }
 {
     let (c, d) = (lower_at(slot), higher_at(slot));
     let bits = (
@@ -53,9 +53,9 @@ pub fn step<B: FlightBook, Q: EventQueue>(
     requires slot { slot < 12352 }
     requires fits { Fits (fire slot (moment_of moment)) n (hall_of B.meaning Q.holds floor.old) slip.old }
     ensures wrote { Wrote (fire slot (moment_of moment)) n (hall_of B.meaning Q.holds floor.old) (hall_of B.meaning Q.holds floor.new) slip.old slip.new result.end }
-    ensures number { result.number ≡ (step_of_lem slot (moment_of moment) (hall_of B.meaning Q.holds floor.old)).number }
-    ensures time { time_of result.time ≡ (step_of_lem slot (moment_of moment) (hall_of B.meaning Q.holds floor.old)).time }
-    ensures news { encounter_told result.news ≡ (step_of_lem slot (moment_of moment) (hall_of B.meaning Q.holds floor.old)).news }
+    ensures number { result.number ≡ (step_of slot (moment_of moment) (hall_of B.meaning Q.holds floor.old)).number }
+    ensures time { time_of result.time ≡ (step_of slot (moment_of moment) (hall_of B.meaning Q.holds floor.old)).time }
+    ensures news { encounter_told result.news ≡ (step_of slot (moment_of moment) (hall_of B.meaning Q.holds floor.old)).news }
 {
     let news = foretell(floor, slot, moment);
     let number = floor.number(slot);

@@ -1,5 +1,5 @@
 //! The line of a route at a tick.
-ghost use Rattle.std.specs.Prelude.{◌≡◌, ◌+◌, ◌*◌, ◌<◌, ◌≤◌, true, get_or, take, drop, pos, slice_index_or, unsigned_abs};
+ghost use Rattle.std.specs.Prelude.{◌≡◌, ◌+◌, ◌*◌, ◌<◌, ◌≤◌, true, take, drop, pos, slice_index_or, unsigned_abs};
 ghost use Rattle.rules.specs.Paths.{line_at};
 ghost use Rattle.rules.specs.Plans.{until};
 ghost use Rattle.plans.specs.Axes.{axis_of};
@@ -25,7 +25,7 @@ impl Route {
     /// What leg k adds to the line at tick i.
     fn part(&self, axis: Axis, k: usize, i: u16) -> (i32, i32)
         requires { k < self.now.plan.count }
-        ensures { result ≡ leg_line ((leg_of (slice_index_or self.now.plan.legs k blank)).speed (axis_of axis)) (get_or self.now.plan.legs k blank).start (until (legs_of (drop (k + 1) (take self.now.plan.count self.now.plan.legs))) self.now.plan.end) i }
+        ensures { result ≡ leg_line ((leg_of (slice_index_or self.now.plan.legs k blank)).speed (axis_of axis)) (slice_index_or self.now.plan.legs k blank).start (until (legs_of (drop (k + 1) (take self.now.plan.count self.now.plan.legs))) self.now.plan.end) i }
     {
         let leg = self.plan.legs[k];
         part_of(axis.speed(leg.speed), leg.start, self.plan.until(k), i)
