@@ -17,7 +17,8 @@ returns c =
     let long : slot < length q.moments = omega (arith, q.long) in
     let wide : slot < length q.tree.place = omega (arith, q.tree.size) in
     let e : place_of q.tree slot ≡ get_or q.tree.place slot 0 = get_or_default q.tree.place slot 65535 0 wide in
-    let there = held_some q.tree (stamp_at q.moments) slot (ne_eqb (place_of q.tree slot) 65535 (λ p. c.if-self-slot.false (sym e ∙ p))) in
+    let placed : ¬ (get_or q.tree.place slot 0 ≡ 65535) = c.if-self-slot.false in
+    let there = held_some q.tree (stamp_at q.moments) slot (ne_eqb (place_of q.tree slot) 65535 (λ p. placed (sym e ∙ p))) in
     ap (λ m. Ok (Some m)) (stamp_read q.moments slot c.index-self-slot.result long)
     ∙ ap Ok (sym there)
     ∙ answered_in slot (holds_of q slot) small
