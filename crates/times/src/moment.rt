@@ -1,12 +1,12 @@
 //! Moments: a time and a side of it.
 ghost use Rattle.std.specs.Prelude.{◌≡◌};
-ghost use Rattle.rules.specs.Stamps.{is_earlier, at, just_after};
+ghost use Rattle.rules.specs.Stamps.{at, just_after};
 ghost use Rattle.times.specs.Of.{time_of, moment_of};
 
 use crate::time::Time;
 
 /// A time and a side: the instant itself (side 0), or just after it (side 1).
-#[derive(Clone, Copy, PartialEq, Eq, Debug)]
+#[derive(Clone, Copy, PartialEq, Eq, PartialOrd, Ord, Debug)]
 pub struct Moment {
     pub time: Time,
     pub after: bool,
@@ -25,12 +25,5 @@ impl Moment {
         ensures { moment_of result ≡ just_after (time_of time) }
     {
         Moment { time, after: true }
-    }
-
-    /// Whether this moment comes before another: by time, then by side.
-    pub fn before(self, other: Moment) -> bool
-        ensures { result ≡ is_earlier (moment_of self) (moment_of other) }
-    {
-        self.time.before(other.time) || !other.time.before(self.time) && !self.after && other.after
     }
 }

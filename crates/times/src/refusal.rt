@@ -43,12 +43,12 @@ pub enum Refusal {
     QueueHolds,
 }
 
-impl Refusal {
-    /// The number that the refusal returns.
-    pub fn number(self) -> u8
-        ensures { result ≡ number_of self }
-    {
-        match self {
+/// The number that a refusal returns.
+impl From<Refusal> for u8 {
+    ghost from_gives = { λ refusal number. number ≡ number_of refusal };
+
+    fn from(refusal: Refusal) -> u8 {
+        match refusal {
             Refusal::WrongClock => 1,
             Refusal::CraftRange => 2,
             Refusal::SameCraft => 3,

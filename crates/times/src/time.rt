@@ -6,6 +6,7 @@ mod gcd;
 mod make;
 mod order;
 mod parts;
+mod text;
 
 /// The time n / d in ticks, in least terms, with d from 1 to 16,000 and a value from 0 to 50,000.
 #[derive(Clone, Copy, PartialEq, Eq, Debug)]

@@ -1,22 +1,35 @@
 //! The order of times.
-ghost use Rattle.std.specs.Prelude.{◌≡◌};
-ghost use Rattle.rules.specs.Fractions.{is_before, is_same};
-ghost use Rattle.times.specs.Of.{time_of};
+ghost use Rattle.std.specs.Prelude.{refl};
+ghost use Rattle.std.specs.Ordering.{as_partial_cmp};
+ghost use Rattle.times.specs.Orders.{time_cmp};
+ghost use Rattle.times.specs.Ordered.{time_total, time_matches_eq, time_partial};
 
 use crate::time::Time;
+use std::cmp::Ordering;
 
-impl Time {
-    /// Whether this time comes before another.
-    pub fn before(self, other: Time) -> bool
-        ensures { result ≡ is_before (time_of self) (time_of other) }
-    {
-        u64::from(self.n) * u64::from(other.d) < u64::from(other.n) * u64::from(self.d)
+/// Times are ordered by their values.
+impl Ord for Time {
+    ghost cmp = { time_cmp };
+
+    ghost total = { time_total };
+
+    ghost matches_partial_cmp = { λ s t. refl };
+
+    ghost matches_eq = { time_matches_eq };
+
+    fn cmp(&self, other: &Time) -> Ordering {
+        let left = u64::from(self.n) * u64::from(other.d);
+        let right = u64::from(other.n) * u64::from(self.d);
+        left.cmp(&right)
     }
+}
 
-    /// Whether the two are one time: in least terms, the same numbers.
-    pub fn same(self, other: Time) -> bool
-        ensures { result ≡ is_same (time_of self) (time_of other) }
-    {
-        self.n == other.n && self.d == other.d
+impl PartialOrd for Time {
+    ghost partial_cmp = { as_partial_cmp time_cmp };
+
+    ghost laws = { time_partial };
+
+    fn partial_cmp(&self, other: &Time) -> Option<Ordering> {
+        Some(self.cmp(other))
     }
 }
