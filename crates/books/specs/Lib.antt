@@ -7,3 +7,4 @@ pub mod Plain
 pub mod Plains
 pub mod Sums
 pub mod Owns
+pub mod Seats

@@ -5,6 +5,8 @@ pub mod book;
 pub mod laws;
 pub mod plain;
 mod routes;
+pub mod seat;
 
 pub use book::FlightBook;
 pub use plain::PlanBook;
+pub use seat::Seat;

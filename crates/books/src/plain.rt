@@ -6,6 +6,8 @@ ghost use Rattle.books.specs.Plains.{plain_lawful};
 
 use crate::book::FlightBook;
 use crate::routes::Routes;
+use crate::seat::Seat;
+use fleet::Craft;
 use plans::{LegAnswer, Plan, Route};
 use times::{Refusal, Time};
 
@@ -56,26 +58,19 @@ impl FlightBook for PlanBook {
     }
 
     fn leg(&self, craft: u8, t: Time) -> Result<LegAnswer, Refusal> {
-        if craft >= 64 {
-            return Err(Refusal::CraftRange);
-        }
+        let craft = Craft::new(craft)?;
         Ok(self.routes.leg(craft, t))
     }
 
     fn follows(&self, craft: u8, leader: u8) -> Result<bool, Refusal> {
-        if craft >= 64 || leader >= 64 {
-            return Err(Refusal::CraftRange);
-        }
+        let craft = Craft::new(craft)?;
+        let leader = Craft::new(leader)?;
         Ok(craft == leader)
     }
 
     fn file(&mut self, craft: u8, plan: Plan) -> Result<(), Refusal> {
-        if craft >= 64 {
-            return Err(Refusal::CraftRange);
-        }
-        let Ok(route) = Route::new(plan) else {
-            return Err(Refusal::PlanRules);
-        };
+        let craft = Craft::new(craft)?;
+        let route = Route::new(plan)?;
         if plan.count > self.limit {
             return Err(Refusal::LegLimit);
         }
@@ -84,13 +79,7 @@ impl FlightBook for PlanBook {
     }
 
     fn ride(&mut self, craft: u8, _level: u8, carrier: Option<u8>) -> Result<(), Refusal> {
-        if craft >= 64 {
-            return Err(Refusal::CraftRange);
-        }
-        match carrier {
-            Some(k) if k >= 64 => Err(Refusal::CraftRange),
-            Some(k) if k == craft => Err(Refusal::SameCraft),
-            _ => Err(Refusal::LevelRange),
-        }
+        Seat::new(craft, carrier)?;
+        Err(Refusal::LevelRange)
     }
 }

@@ -1,5 +1,6 @@
 //! Plans, and tables of calls with what they are to answer.
 use books::FlightBook;
+use fleet::Xyz;
 use plans::{Leg, LegAnswer, Plan, Position, Speed};
 use std::process::Abort;
 use std::test::Fail;
@@ -33,7 +34,7 @@ pub fn two_legs(x: i32, start: u16, speed: i16, second: u16, end: u16) -> Plan {
 fn number(r: Result<(), Refusal>) -> u8 {
     match r {
         Ok(()) => 0,
-        Err(refusal) => refusal.number(),
+        Err(refusal) => u8::from(refusal),
     }
 }
 
@@ -59,9 +60,11 @@ pub fn legs<B: FlightBook>(
 ) -> Result<(), Fail> {
     for (craft, n, d, x, next) in rows {
         let answer = LegAnswer {
-            x: *x,
-            y: (0, 0),
-            z: (0, 0),
+            lines: Xyz {
+                x: *x,
+                y: (0, 0),
+                z: (0, 0),
+            },
             next: *next,
         };
         assert_eq!(rt; book.leg(*craft, Time::new(*n, *d)?), Ok(answer));

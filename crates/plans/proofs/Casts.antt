@@ -1,17 +1,24 @@
 -- Lines in 32 bits.
-use Rattle.std.proofs.Common.{◌≡◌, ℕ, zero, suc, ◌+◌, ◌-◌, ◌^◌, ◌<◌, ◌≤◌, true, List, [], ◌∷◌, length, get_or, take, drop, ℤ, pos, ◌+ℤ◌, ◌-ℤ◌, ◌*ℤ◌, neg_ℤ, nat_abs, sym, refl, ap, ◌∙◌, subst, ap₂, arith, w32, SFits, to_z, of_z}
+use Rattle.std.proofs.Common.{◌≡◌, ℕ, ◌+◌, ◌-◌, ◌*◌, ◌^◌, ◌<◌, ◌≤◌, true, List, [], ◌∷◌, ◌++◌, length, ℤ, pos, ◌+ℤ◌, ◌-ℤ◌, ◌*ℤ◌, neg_ℤ, nat_abs, sym, refl, ap, ◌∙◌, subst, ap₂, arith, length-append, w32, SFits, to_z, of_z}
 use native.Mathlib.Decide.{dec_lt}
 use borrow.Author.Differences.{ints}
+use Rattle.std.specs.Int.{Width}
 use Rattle.std.proofs.lemmas.Int.{to_z-of_z}
-use Rattle.std.proofs.lemmas.Bool.{lt-ltb, le-ltb}
-use Rattle.rules.specs.Paths.{Axis}
+use Rattle.std.proofs.lemmas.List.{map_push}
+use Rattle.std.proofs.lemmas.Bool.{and_parts, lt-ltb, le-ltb}
+use Rattle.rules.specs.Paths.{Axis, xyz}
 use Rattle.rules.specs.Plans.{until, legs_right}
+use Rattle.rules.specs.Plans.{Leg as FlightLeg}
+use Rattle.fleet.specs.declared.axes.Axis.{Axis as CodeAxis}
+use Rattle.fleet.specs.declared.axes.Axis.TheVariants.{X, Y, Z}
+use Rattle.fleet.specs.declared.axes.Xyz.{Xyz}
+use Rattle.fleet.specs.Axes.{axis_of, part}
 use Rattle.plans.specs.declared.plan.Leg.{Leg}
-use Rattle.plans.specs.Of.{leg_of, legs_of, blank}
+use Rattle.plans.specs.Of.{speed_of, leg_of, legs_of}
 use Rattle.plans.specs.Lines.{plus, leg_line, legs_line}
-use Rattle.plans.proofs.Sizes.{times_within, neg_within, pair_≡}
-use Rattle.plans.proofs.Flown.{LegRight, first_right, rest_right, until_end}
-use Rattle.plans.proofs.Tables.{from_leg}
+use Rattle.plans.proofs.Sizes.{times_within, sum_within, neg_within, pair_≡}
+use Rattle.plans.proofs.Flown.{LegRight, leg_says}
+use Rattle.plans.proofs.Tables.{leg_right, until_last, rights_last}
 
 -- to its bits and back
 abbrev pub back : ℤ → ℤ
@@ -71,19 +78,6 @@ part_small v f u i hv o l = go (dec_lt i f) (dec_lt i u)
     go (no h) (yes k) = rw (le-ltb i f (omega arith), lt-ltb i u k) (record { base = neg_within (v *ℤ pos f) 50000000 (times_within v f 1000 50000 hv (omega arith)); slope = hv })
     go (no h) (no k) = rw (le-ltb i f (omega arith), le-ltb i u (omega arith)) (record { base = times_within v (u - f) 1000 50000 hv (omega arith); slope = omega arith })
 
--- what is left of right legs is right
-pub right_from : (ls : List Leg) (k end : ℕ) → legs_right (legs_of ls) end ≡ true → legs_right (legs_of (drop k ls)) end ≡ true
-right_from ls zero end r = r
-right_from [] (suc k) end r = r
-right_from (l ∷ ls) (suc k) end r = right_from ls k end (rest_right (leg_of l) (legs_of ls) end r)
-
-pub leg_right_at : (n : ℕ) (ls : List Leg) (k end : ℕ) → n ≤ length ls → k < n → legs_right (legs_of (take n ls)) end ≡ true →
-    LegRight (leg_of (get_or ls k blank)) (until (legs_of (drop (k + 1) (take n ls))) end) × (until (legs_of (drop (k + 1) (take n ls))) end ≤ end)
-leg_right_at n ls k end h l r = (
-  first_right _ (legs_of (drop (k + 1) (take n ls))) end (subst (λ (xs : List Leg). legs_right (legs_of xs) end ≡ true) (from_leg n ls k blank h l) (right_from (take n ls) k end r)),
-  until_end (legs_of (drop (k + 1) (take n ls))) end (right_from (take n ls) (k + 1) end r),
-)
-
 plus_assoc : (l m n : ℤ × ℤ) → plus (plus l m) n ≡ plus l (plus m n)
 plus_assoc l m n = pair_≡ (three l.0 m.0 n.0) (three l.1 m.1 n.1)
   where
@@ -96,11 +90,50 @@ plus_zero l = pair_≡ (zeros l.0) (zeros l.1)
     zeros : (a : ℤ) → a +ℤ pos 0 ≡ a
     zeros a = omega (arith, ints)
 
--- one leg more in the sum, one less to come
-pub sum_step : (n : ℕ) (ls : List Leg) (k end : ℕ) (a : Axis) (i : ℕ) (l m s : ℤ × ℤ) → n ≤ length ls → k < n →
-    m ≡ leg_line ((leg_of (get_or ls k blank)).speed a) (get_or ls k blank).start (until (legs_of (drop (k + 1) (take n ls))) end) i → s ≡ plus l m →
-    plus s (legs_line (legs_of (drop (k + 1) (take n ls))) end a i) ≡ plus l (legs_line (legs_of (drop k (take n ls))) end a i)
-sum_step n ls k end a i l m s h o em es =
-    ap (λ (x : ℤ × ℤ). plus x (legs_line (legs_of (drop (k + 1) (take n ls))) end a i)) (es ∙ ap (plus l) em)
-    ∙ plus_assoc l (leg_line ((leg_of (get_or ls k blank)).speed a) (get_or ls k blank).start (until (legs_of (drop (k + 1) (take n ls))) end) i) (legs_line (legs_of (drop (k + 1) (take n ls))) end a i)
-    ∙ ap (λ (xs : List Leg). plus l (legs_line (legs_of xs) end a i)) (sym (from_leg n ls k blank h o))
+zero_plus : (l : ℤ × ℤ) → plus (pos 0, pos 0) l ≡ l
+zero_plus l = pair_≡ (zeros l.0) (zeros l.1)
+  where
+    zeros : (a : ℤ) → pos 0 +ℤ a ≡ a
+    zeros a = omega (arith, ints)
+
+-- what legs add is what those before the last add, up to where it starts, and what it adds
+line_last : (ls : List FlightLeg) (l : FlightLeg) (end : ℕ) (a : Axis) (i : ℕ) → legs_line (ls ++ l ∷ []) end a i ≡ plus (legs_line ls l.from a i) (leg_line (l.speed a) l.from end i)
+line_last [] l end a i = plus_zero (leg_line (l.speed a) l.from end i) ∙ sym (zero_plus (leg_line (l.speed a) l.from end i))
+line_last (k ∷ ls) l end a i =
+    ap₂ (λ (u : ℕ) (m : ℤ × ℤ). plus (leg_line (k.speed a) k.from u i) m) (until_last ls l end) (line_last ls l end a i)
+    ∙ sym (plus_assoc (leg_line (k.speed a) k.from (until ls l.from) i) (legs_line ls l.from a i) (leg_line (l.speed a) l.from end i))
+
+-- the last of right legs, and those before it
+module _ (ls rest : List Leg) (l : Leg) (end : ℕ) (e : ls ≡ rest ++ l ∷ []) where
+  pub last_says : legs_right (legs_of ls) end ≡ true → (legs_right (legs_of rest) l.start ≡ true) × LegRight (leg_of l) end
+  last_says r = let q = and_parts (legs_right (legs_of rest) l.start) (leg_right (leg_of l) end) (sym (rights_last ls rest l end e) ∙ r) in (q.0, leg_says (leg_of l) end q.1)
+
+  pub sum_step : (a : Axis) (i : ℕ) (line : ℤ × ℤ) →
+      plus (legs_line (legs_of rest) l.start a i) (plus (leg_line (speed_of l.speed a) l.start end i) line) ≡ plus (legs_line (legs_of ls) end a i) line
+  sum_step a i line =
+      sym (plus_assoc (legs_line (legs_of rest) l.start a i) (leg_line (speed_of l.speed a) l.start end i) line)
+      ∙ ap (λ (m : ℤ × ℤ). plus m line)
+      (sym (ap (λ (xs : List Leg). legs_line (legs_of xs) end a i) e ∙ ap (λ (xs : List FlightLeg). legs_line xs end a i) (map_push leg_of rest l) ∙ line_last (legs_of rest) (leg_of l) end a i))
+
+  module _ (a : Axis) (i : ℕ) (m line : ℤ × ℤ) (em : m ≡ leg_line (speed_of l.speed a) l.start end i) (r : legs_right (legs_of ls) end ≡ true) (h : end ≤ 50000) where
+    added : Part m
+    added = let q = (last_says r).1 in subst Part (sym em) (part_small (speed_of l.speed a) l.start end i (q.speeds a) q.order h)
+
+    length_is : length ls ≡ length rest + 1
+    length_is = ap length e ∙ length-append rest (l ∷ [])
+
+    -- there is room for what the last adds, and for what those before it will
+    pub base_room : nat_abs line.0 + 50000000 * length ls ≤ 400000000 → nat_abs (m.0 +ℤ line.0) + 50000000 * length rest ≤ 400000000
+    base_room b = let p = added.base in let n = length_is in let z = sum_within m.0 line.0 50000000 (nat_abs line.0) p (omega arith) in omega arith
+
+    pub slope_room : nat_abs line.1 + 1000 * length ls ≤ 8000 → nat_abs (m.1 +ℤ line.1) + 1000 * length rest ≤ 8000
+    slope_room b = let p = added.slope in let n = length_is in let z = sum_within m.1 line.1 1000 (nat_abs line.1) p (omega arith) in omega arith
+
+-- what lies on an axis, to its bits and back
+pub part_is : (w : Width) (p : Xyz ℤ) (a : CodeAxis) (z : ℤ) → SFits w z → z ≡ part p a → to_z w (of_z w z) ≡ xyz p.x p.y p.z (axis_of a)
+part_is w p a z f e = to_z-of_z w z f ∙ e ∙ by a
+  where
+    by : (a : CodeAxis) → part p a ≡ xyz p.x p.y p.z (axis_of a)
+    by X = refl
+    by Y = refl
+    by Z = refl

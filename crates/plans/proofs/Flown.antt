@@ -1,5 +1,5 @@
 -- The path of a plan that keeps its rules.
-use Rattle.std.proofs.Common.{◌≡◌, ℕ, suc, ◌+◌, ◌-◌, ◌*◌, ◌<◌, ◌≤◌, min, Bool, true, cond, ltb, leb, List, [], ◌∷◌, ◌++◌, map, ℤ, pos, ◌+ℤ◌, ◌-ℤ◌, ◌*ℤ◌, neg_ℤ, nat_abs, Some, None, Option, sym, refl, ap, ◌∙◌, subst, ap₂, ⊎_elim, arith}
+use Rattle.std.proofs.Common.{◌≡◌, ℕ, suc, ◌+◌, ◌-◌, ◌*◌, ◌<◌, ◌≤◌, min, Bool, true, cond, ◌&&◌, ltb, leb, List, [], ◌∷◌, ◌++◌, map, ℤ, pos, ◌+ℤ◌, ◌-ℤ◌, ◌*ℤ◌, neg_ℤ, nat_abs, Some, None, Option, sym, refl, ap, ◌∙◌, subst, ap₂, ⊎_elim, arith}
 use mathlib.Core.List.Memᴰ
 use mathlib.Core.List.{Memᴰ}
 use native.Mathlib.Decide.{dec_lt}
@@ -24,6 +24,11 @@ every : (p : Axis → Bool) → on_every_axis p ≡ true → (a : Axis) → p a 
 every p e X = grind arith
 every p e Y = grind arith
 every p e Z = grind arith
+
+pub leg_says : (l : Leg) (u : ℕ) → (ltb l.from u && on_every_axis (λ a. within 1000 (l.speed a))) ≡ true → LegRight l u
+leg_says l u e =
+    let q = and_parts (ltb l.from u) (on_every_axis (λ a. within 1000 (l.speed a))) e in
+    record { order = ltb-true _ _ q.0; speeds = λ a. leb-true (nat_abs (l.speed a)) 1000 (every (λ a. within 1000 (l.speed a)) q.1 a) }
 
 pub first_right : (l : Leg) (ls : List Leg) (end : ℕ) → legs_right (l ∷ ls) end ≡ true → LegRight l (until ls end)
 first_right l ls end e =

@@ -38,16 +38,16 @@ xyz_≡ {A} f u v w x y z = fun_ext by
 
 -- an answer that gives the line on each axis at the whole part of t, and the first break above it
 pub answered : (r : Route) (l : LegAnswer) (t : Fraction) (i : ℕ) → Proper t → i ≡ whole t →
-    line_of l.x ≡ line_at (route_path r) X i → line_of l.y ≡ line_at (route_path r) Y i → line_of l.z ≡ line_at (route_path r) Z i →
+    line_of l.lines.x ≡ line_at (route_path r) X i → line_of l.lines.y ≡ line_at (route_path r) Y i → line_of l.lines.z ≡ line_at (route_path r) Z i →
     l.next ≡ first_past i (route_path r).breaks → answer_of l ≡ leg_asked (route_path r) t
 answered r l t i pt e x y z n =
     λ j. (
-      xyz_≡ (leg (route_path r) t) (line_of l.x) (line_of l.y) (line_of l.z)
+      xyz_≡ (leg (route_path r) t) (line_of l.lines.x) (line_of l.lines.y) (line_of l.lines.z)
           (x ∙ ap (line_at (route_path r) X) e) (y ∙ ap (line_at (route_path r) Y) e) (z ∙ ap (line_at (route_path r) Z) e) j,
       (n ∙ ap (λ (k : ℕ). first_past k (route_path r).breaks) e ∙ sym (first_break (plan_of r.plan).legs r.plan.end t pt (route_right r).legs)) j,
     )
 
-pub standing_asked : (t : Fraction) → answer_of (record { x = (pos 0, pos 0); y = (pos 0, pos 0); z = (pos 0, pos 0); next = None }) ≡ leg_asked standing t
+pub standing_asked : (t : Fraction) → answer_of (record { lines = record { x = (pos 0, pos 0); y = (pos 0, pos 0); z = (pos 0, pos 0) }; next = None }) ≡ leg_asked standing t
 standing_asked t =
     let e : line_of (pos 0, pos 0) ≡ line_at standing X (whole t) = sym (ap line_of (still (pos 0) (whole t))) in
     λ j. (xyz_≡ (leg standing t) (line_of (pos 0, pos 0)) (line_of (pos 0, pos 0)) (line_of (pos 0, pos 0)) e e e j, None)

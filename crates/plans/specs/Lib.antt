@@ -1,5 +1,4 @@
 pub mod Of
-pub mod Axes
 pub mod Lines
 pub mod Laws
 pub mod Routes

@@ -23,7 +23,7 @@ route_made p = cond (plan_right p) (Ok (path_of p)) (Err 8)
 
 -- an answer to the leg question as values: the line on each axis, and the first break
 abbrev pub answer_of : LegAnswer → (Axis → Line) × Option ℕ
-answer_of l = (xyz (line_of l.x) (line_of l.y) (line_of l.z), l.next)
+answer_of l = (xyz (line_of l.lines.x) (line_of l.lines.y) (line_of l.lines.z), l.next)
 
 -- what the leg question on a path is to tell
 abbrev pub leg_asked : Path → Fraction → (Axis → Line) × Option ℕ

@@ -4,12 +4,12 @@ ghost use Rattle.rules.specs.Fractions.{Fraction};
 ghost use Rattle.rules.specs.Paths.{standing};
 ghost use Rattle.plans.specs.Routes.{answer_of, leg_asked};
 
+use fleet::Xyz;
+
 /// The line A + V × t of a path on each axis, as (A, V), and the path's first break after the time asked for, if any.
 #[derive(Clone, Copy, PartialEq, Eq, Debug)]
 pub struct LegAnswer {
-    pub x: (i32, i32),
-    pub y: (i32, i32),
-    pub z: (i32, i32),
+    pub lines: Xyz<(i32, i32)>,
     pub next: Option<u16>,
 }
 
@@ -19,9 +19,11 @@ impl LegAnswer {
         ensures { (t : Fraction) → answer_of result ≡ leg_asked standing t }
     {
         LegAnswer {
-            x: (0, 0),
-            y: (0, 0),
-            z: (0, 0),
+            lines: Xyz {
+                x: (0, 0),
+                y: (0, 0),
+                z: (0, 0),
+            },
             next: None,
         }
     }

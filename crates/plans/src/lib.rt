@@ -2,8 +2,8 @@
 #![tactic(auto)]
 
 pub mod answer;
-mod axis;
 pub mod laws;
+pub mod lines;
 pub mod plan;
 pub mod route;
 

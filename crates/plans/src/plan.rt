@@ -4,21 +4,13 @@ ghost use Rattle.std.specs.Prelude.{◌≡◌, length};
 mod check;
 mod make;
 
+use fleet::Xyz;
+
 /// A position in centimetres.
-#[derive(Clone, Copy)]
-pub struct Position {
-    pub x: i32,
-    pub y: i32,
-    pub z: i32,
-}
+pub type Position = Xyz<i32>;
 
 /// A speed in centimetres a tick.
-#[derive(Clone, Copy)]
-pub struct Speed {
-    pub x: i16,
-    pub y: i16,
-    pub z: i16,
-}
+pub type Speed = Xyz<i16>;
 
 /// A leg of a plan: the tick at which it starts, and its speed.
 #[derive(Clone, Copy)]
@@ -29,6 +21,7 @@ pub struct Leg {
 
 /// Where a craft stands at first, its legs, and the tick at which the last one ends.
 /// Any plan can be written down, also one that breaks the rules: `count` may be 0 or above 8, and legs beyond the eighth are counted and not kept.
+// A rule of the project needs the table with its count: a plan is copied and needs no heap, and an ArrayVec is not Copy and counts no more than it keeps.
 #[derive(Clone, Copy)]
 pub struct Plan {
     pub start: Position,

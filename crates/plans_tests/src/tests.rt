@@ -1,3 +1,4 @@
+use fleet::Xyz;
 use plans::{Leg, LegAnswer, Plan, Position, Route, Speed};
 use std::test::Fail;
 use times::Time;
@@ -33,7 +34,7 @@ fn many(count: u16) -> Plan {
 fn told(plan: Plan) -> u8 {
     match Route::new(plan) {
         Ok(_) => 0,
-        Err(refusal) => refusal.number(),
+        Err(refusal) => u8::from(refusal),
     }
 }
 
@@ -108,32 +109,38 @@ fn two_legs() -> Plan {
 
 #[test]
 fn legs_at_times(rt: HostRuntime) -> Result<(), Fail> {
-    let Ok(route) = Route::new(two_legs()) else {
-        return Err(Fail::new("a plan that keeps its rules"));
-    };
+    let route = Route::new(two_legs())?;
     let y = (-7, 0);
     let stands = LegAnswer {
-        x: (100, 0),
-        y,
-        z: (0, 0),
+        lines: Xyz {
+            x: (100, 0),
+            y,
+            z: (0, 0),
+        },
         next: Some(5),
     };
     let first = LegAnswer {
-        x: (90, 2),
-        y,
-        z: (0, 0),
+        lines: Xyz {
+            x: (90, 2),
+            y,
+            z: (0, 0),
+        },
         next: Some(10),
     };
     let second = LegAnswer {
-        x: (140, -3),
-        y,
-        z: (-10000, 1000),
+        lines: Xyz {
+            x: (140, -3),
+            y,
+            z: (-10000, 1000),
+        },
         next: Some(20),
     };
     let ended = LegAnswer {
-        x: (80, 0),
-        y,
-        z: (10000, 0),
+        lines: Xyz {
+            x: (80, 0),
+            y,
+            z: (10000, 0),
+        },
         next: None,
     };
     for (n, d, answer) in [
@@ -157,35 +164,37 @@ fn legs_at_times(rt: HostRuntime) -> Result<(), Fail> {
 #[test]
 fn far_ends(rt: HostRuntime) -> Result<(), Fail> {
     let plan = single(at(1000000, -1000000, 0), leg(0, 1000, -1000, 0), 50000);
-    let Ok(route) = Route::new(plan) else {
-        return Err(Fail::new("a plan that keeps its rules"));
-    };
+    let route = Route::new(plan)?;
     let runs = LegAnswer {
-        x: (1000000, 1000),
-        y: (-1000000, -1000),
-        z: (0, 0),
+        lines: Xyz {
+            x: (1000000, 1000),
+            y: (-1000000, -1000),
+            z: (0, 0),
+        },
         next: Some(50000),
     };
     let ended = LegAnswer {
-        x: (51000000, 0),
-        y: (-51000000, 0),
-        z: (0, 0),
+        lines: Xyz {
+            x: (51000000, 0),
+            y: (-51000000, 0),
+            z: (0, 0),
+        },
         next: None,
     };
     assert_eq!(rt; route.leg(Time::zero()), runs);
     assert_eq!(rt; route.leg(Time::new(799999999, 16000)?), runs);
     assert_eq!(rt; route.leg(Time::new(50000, 1)?), ended);
     let late = single(at(0, 0, 0), leg(49999, 1000, 0, 0), 50000);
-    let Ok(route) = Route::new(late) else {
-        return Err(Fail::new("a plan that keeps its rules"));
-    };
-    assert_eq!(rt; route.leg(Time::new(49999, 1)?).x, (-49999000, 1000));
+    let route = Route::new(late)?;
+    assert_eq!(rt; route.leg(Time::new(49999, 1)?).lines.x, (-49999000, 1000));
     assert_eq!(rt;
         LegAnswer::unplanned(),
         LegAnswer {
-            x: (0, 0),
-            y: (0, 0),
-            z: (0, 0),
+            lines: Xyz {
+                x: (0, 0),
+                y: (0, 0),
+                z: (0, 0),
+            },
             next: None,
         }
     );

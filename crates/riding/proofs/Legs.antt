@@ -3,6 +3,7 @@ use Rattle.std.proofs.Common.{◌≡◌, ℕ, zero, suc, ◌^◌, ◌<◌, ◌�
 use native.Mathlib.Nat.{pow-succ'}
 use Rattle.rules.specs.Fractions.{Fraction, whole}
 use Rattle.rules.specs.Paths.{Axis, X, Y, Z, Line, Path, Kept, sum, leg, line_at}
+use Rattle.fleet.specs.declared.axes.Axis.TheVariants.{X as onX, Y as onY, Z as onZ}
 use Rattle.plans.specs.declared.answer.LegAnswer.{LegAnswer}
 use Rattle.plans.specs.Lines.{line_of, plus}
 use Rattle.plans.specs.Routes.{answer_of, leg_asked}
@@ -25,10 +26,10 @@ line_sum u v p q a i e f =
 pub legs_sum : (l m : LegAnswer) (p q : Path) (t : Fraction) → answer_of l ≡ leg_asked p t → answer_of m ≡ leg_asked q t → answer_of (added_legs l m) ≡ leg_asked (sum p q) t
 legs_sum l m p q t e f =
     λ j. (
-      xyz_≡ (leg (sum p q) t) (line_of (plus l.x m.x)) (line_of (plus l.y m.y)) (line_of (plus l.z m.z))
-          (line_sum l.x m.x p q X (whole t) (on_axis l p t e X) (on_axis m q t f X))
-          (line_sum l.y m.y p q Y (whole t) (on_axis l p t e Y) (on_axis m q t f Y))
-          (line_sum l.z m.z p q Z (whole t) (on_axis l p t e Z) (on_axis m q t f Z)) j,
+      xyz_≡ (leg (sum p q) t) (line_of (plus l.lines.x m.lines.x)) (line_of (plus l.lines.y m.lines.y)) (line_of (plus l.lines.z m.lines.z))
+          (line_sum l.lines.x m.lines.x p q X (whole t) (on_axis l p t e X) (on_axis m q t f X))
+          (line_sum l.lines.y m.lines.y p q Y (whole t) (on_axis l p t e Y) (on_axis m q t f Y))
+          (line_sum l.lines.z m.lines.z p q Z (whole t) (on_axis l p t e Z) (on_axis m q t f Z)) j,
       (ap₂ earlier (ap (λ (r : (Axis → Line) × Option ℕ). r.1) e) (ap (λ (r : (Axis → Line) × Option ℕ). r.1) f) ∙ sym (first_both t p.breaks q.breaks)) j,
     )
 
@@ -39,26 +40,17 @@ small_line u p a i n k h e = record {
 }
 
 pub small_legs : (l : LegAnswer) (p : Path) (t : Fraction) (n : ℕ) → Kept n p → n ≤ 4 → answer_of l ≡ leg_asked p t → SmallLegs l
-small_legs l p t n k h e = record {
-  x = small_line l.x p X (whole t) n k h (on_axis l p t e X);
-  y = small_line l.y p Y (whole t) n k h (on_axis l p t e Y);
-  z = small_line l.z p Z (whole t) n k h (on_axis l p t e Z);
-}
+small_legs l p t n k h e onX = small_line l.lines.x p X (whole t) n k h (on_axis l p t e X)
+small_legs l p t n k h e onY = small_line l.lines.y p Y (whole t) n k h (on_axis l p t e Y)
+small_legs l p t n k h e onZ = small_line l.lines.z p Z (whole t) n k h (on_axis l p t e Z)
 
--- an answer that is given is the one asked for, of a craft in range; a refusal says that it is out of range
+-- an answer that is given is the one asked for, of a craft in range
 pub asked_ok : {A : Type 0} (t : Bool) (x y : A) → ◌≡◌ {A = Result A ℕ} (Ok x) (cond t (Err 2) (Ok y)) → (t ≡ false) × (x ≡ y)
 asked_ok true x y e = let z : ◌≡◌ {A = ℕ} 0 1 = cc in absurd (omega arith)
 asked_ok false x y e = (refl, cc)
 
-pub asked_err : {A : Type 0} (t : Bool) (n : ℕ) (y : A) → ◌≡◌ {A = Result A ℕ} (Err n) (cond t (Err 2) (Ok y)) → t ≡ true
-asked_err true n y e = refl
-asked_err false n y e = let z : ◌≡◌ {A = ℕ} 0 1 = cc in absurd (omega arith)
-
 pub told_ok : {A : Type 0} (t : Bool) (x y : A) → t ≡ false → x ≡ y → ◌≡◌ {A = Result A ℕ} (Ok x) (cond t (Err 2) (Ok y))
 told_ok t x y e f = rw (e, f) refl
-
-pub told_err : {A : Type 0} (t : Bool) (y : A) → t ≡ true → ◌≡◌ {A = Result A ℕ} (Err 2) (cond t (Err 2) (Ok y))
-told_err t y e = rw e refl
 
 -- levels are few, since 2 to their power is at most the scale
 pub few_levels : (l : ℕ) → 2 ^ l ≤ 9 → l ≤ 9

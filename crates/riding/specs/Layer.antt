@@ -1,11 +1,7 @@
 -- The seats of one riding layer.
-use Rattle.std.specs.Prelude.{◌≡◌, ℕ, ◌<◌, cond, ◌||◌, List, [], ◌∷◌, Some, None, Option, nat_le, slice_index_or}
+use Rattle.std.specs.Prelude.{ℕ, cond, ◌||◌, [], ◌∷◌, Some, None, Option, nat_le}
 use Rattle.rules.specs.Basics.{put, first_fit}
 use Rattle.rules.specs.Books.{Book, out_of_range, carrier_out, carrier_is}
-
--- every carrier is a craft in range
-abbrev pub Seated : List (Option ℕ) → Type 0
-Seated xs = (c k : ℕ) → slice_index_or xs c None ≡ Some k → k < 64
 
 -- the seat that a layer adds over a book: none over a scale above 4
 abbrev pub added : (ℕ → Option ℕ) → Book → ℕ → Option ℕ

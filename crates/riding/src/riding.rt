@@ -1,6 +1,7 @@
 //! The riding layer.
-ghost use Rattle.std.specs.Prelude.{◌≡◌, ◌<◌, ◌&&◌, IfSome, None, ◌==◌, nat_le};
+ghost use Rattle.std.specs.Prelude.{◌≡◌, ◌&&◌, None, ◌==◌, nat_le};
 ghost use Rattle.rules.specs.Books.{layered};
+ghost use Rattle.books.specs.Seats.{number_in};
 ghost use Rattle.riding.specs.Layer.{added};
 ghost use Rattle.riding.specs.Seats.{seats_of};
 ghost use Rattle.riding.specs.Lawful.{layered_lawful};
@@ -8,6 +9,7 @@ ghost use Rattle.riding.specs.Lawful.{layered_lawful};
 use crate::seats::Seats;
 use crate::sums::sum;
 use books::FlightBook;
+use fleet::Craft;
 use plans::{LegAnswer, Plan};
 use times::{Refusal, Time};
 
@@ -30,11 +32,9 @@ impl<B: FlightBook> Riding<B> {
         }
     }
 
-    /// The seat that this layer adds for a craft, if any.
-    fn seat(&self, craft: u8) -> Option<u8>
-        requires { craft < 64 }
-        ensures value { result ≡ added (seats_of self.now.seats) (B.meaning self.now.below) craft }
-        ensures range { IfSome result (λ k. k < 64) }
+    /// The carrier of a craft by the seat that this layer adds, if any.
+    fn carrier(&self, craft: Craft) -> Option<Craft>
+        ensures { number_in result ≡ added (seats_of self.now.seats) (B.meaning self.now.below) craft.number }
     {
         if self.below.scale() > 4 {
             return None;
@@ -74,28 +74,20 @@ impl<B: FlightBook> FlightBook for Riding<B> {
     }
 
     fn leg(&self, craft: u8, t: Time) -> Result<LegAnswer, Refusal> {
-        let Ok(own) = self.below.leg(craft, t) else {
-            return Err(Refusal::CraftRange);
-        };
-        let Some(k) = self.seat(craft) else {
+        let own = self.below.leg(craft, t)?;
+        let Some(carrier) = self.carrier(Craft { number: craft }) else {
             return Ok(own);
         };
-        let Ok(carrier) = self.below.leg(k, t) else {
-            return Err(Refusal::CraftRange);
-        };
+        let carrier = self.below.leg(carrier.number, t)?;
         Ok(sum(own, carrier))
     }
 
     fn follows(&self, craft: u8, leader: u8) -> Result<bool, Refusal> {
-        let Ok(own) = self.below.follows(craft, leader) else {
-            return Err(Refusal::CraftRange);
-        };
-        let Some(k) = self.seat(craft) else {
+        let own = self.below.follows(craft, leader)?;
+        let Some(carrier) = self.carrier(Craft { number: craft }) else {
             return Ok(own);
         };
-        let Ok(carrier) = self.below.follows(k, leader) else {
-            return Err(Refusal::CraftRange);
-        };
+        let carrier = self.below.follows(carrier.number, leader)?;
         Ok(own || carrier)
     }
 

@@ -1,10 +1,10 @@
 //! The rules of a plan.
-ghost use Rattle.std.specs.Prelude.{◌≡◌, ◌+◌, ◌<◌, ◌≤◌, take, drop, slice_index_or};
+ghost use Rattle.std.specs.Prelude.{◌≡◌, take};
 ghost use Rattle.rules.specs.Paths.{on_every_axis};
-ghost use Rattle.rules.specs.Plans.{within, until, legs_right, plan_right};
-ghost use Rattle.plans.specs.Of.{place_of, speed_of, leg_of, legs_of, plan_of, blank, leg_right};
+ghost use Rattle.rules.specs.Plans.{within, legs_right, plan_right};
+ghost use Rattle.plans.specs.Of.{place_of, speed_of, legs_of, plan_of};
 
-use crate::plan::{Plan, Position, Speed};
+use crate::plan::{Leg, Plan, Position, Speed};
 
 impl Plan {
     /// Whether the plan keeps its rules: start coordinates within 1,000,000; 1 to 8 legs; start ticks that rise strictly,
@@ -13,70 +13,43 @@ impl Plan {
         ensures { result ≡ plan_right (plan_of self.now) }
     {
         start_right(self.start)
-            && self.count >= 1
-            && self.count <= 8
-            && self.legs_right()
+            && (1..=8).contains(&self.count)
+            && legs_right(self.kept_legs(), self.end)
             && self.end <= 50000
     }
 
-    /// Whether the legs rise to the end tick, with speeds in range.
-    fn legs_right(&self) -> bool
-        requires { self.now.count ≤ 8 }
-        ensures { result ≡ legs_right (plan_of self.now).legs self.now.end }
+    /// The legs that the plan keeps.
+    pub(crate) fn kept_legs(&self) -> &[Leg]
+        ensures { result.now ≡ take self.now.count self.now.legs }
     {
-        for k in 0..self.count as usize {
-            if !self.leg_right(k) {
-                return false;
-            }
-        }
-        true
+        &self.legs[..usize::from(self.count).min(8)]
     }
+}
 
-    /// Whether leg k starts before it ends, with speeds in range.
-    fn leg_right(&self, k: usize) -> bool
-        requires count { self.now.count ≤ 8 }
-        requires k { k < self.now.count }
-        ensures { result ≡ leg_right (leg_of (slice_index_or self.now.legs k blank)) (until (legs_of (drop (k + 1) (take self.now.count self.now.legs))) self.now.end) }
-    {
-        self.legs[k].start < self.until(k) && speed_right(self.legs[k].speed)
-    }
-
-    /// The tick at which leg k ends.
-    pub(crate) fn until(&self, k: usize) -> u16
-        requires count { self.now.count ≤ 8 }
-        requires k { k < self.now.count }
-        ensures { result ≡ until (legs_of (drop (k + 1) (take self.now.count self.now.legs))) self.now.end }
-    {
-        if k + 1 < self.count as usize {
-            self.legs[k + 1].start
-        } else {
-            self.end
+/// Whether legs rise to the tick at which the last ends, with speeds in range.
+fn legs_right(legs: &[Leg], end: u16) -> bool
+    ensures { result ≡ legs_right (legs_of legs.now) end }
+{
+    let mut until = end;
+    for leg in legs.iter().rev() {
+        if leg.start >= until || !speed_right(leg.speed) {
+            return false;
         }
+        until = leg.start;
     }
+    true
 }
 
 /// Whether every start coordinate is in range.
-fn start_right(p: Position) -> bool
-    ensures { result ≡ on_every_axis (λ a. within 1000000 (place_of p a)) }
+fn start_right(start: Position) -> bool
+    ensures { result ≡ on_every_axis (λ a. within 1000000 (place_of start a)) }
 {
-    coordinate_right(p.x) && coordinate_right(p.y) && coordinate_right(p.z)
-}
-
-fn coordinate_right(x: i32) -> bool
-    ensures { result ≡ within 1000000 x }
-{
-    x >= -1000000 && x <= 1000000
+    start.map(|x| (-1_000_000..=1_000_000).contains(&x)).all()
 }
 
 /// Whether every speed is in range.
-fn speed_right(s: Speed) -> bool
-    ensures { result ≡ on_every_axis (λ a. within 1000 (speed_of s a)) }
+fn speed_right(speed: Speed) -> bool
+    ensures { result ≡ on_every_axis (λ a. within 1000 (speed_of speed a)) }
 {
-    speed_in_range(s.x) && speed_in_range(s.y) && speed_in_range(s.z)
-}
-
-fn speed_in_range(v: i16) -> bool
-    ensures { result ≡ within 1000 v }
-{
-    v >= -1000 && v <= 1000
+    speed.map(|v| (-1000..=1000).contains(&v)).all()
 }

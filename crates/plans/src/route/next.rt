@@ -1,13 +1,14 @@
 //! The first break of a route after a time, and the leg question.
-ghost use Rattle.std.specs.Prelude.{◌≡◌};
-ghost use Rattle.rules.specs.Paths.{first_after};
+ghost use Rattle.std.specs.Prelude.{◌≡◌, map, nat_lt};
+ghost use Rattle.std.specs.List.{find};
 ghost use Rattle.times.specs.Of.{time_of};
 ghost use Rattle.plans.specs.Lines.{first_past};
 ghost use Rattle.plans.specs.Routes.{route_path, answer_of, leg_asked};
 
 use crate::answer::LegAnswer;
-use crate::axis::Axis;
+use crate::plan::Leg;
 use crate::route::Route;
+use fleet::Xyz;
 use times::Time;
 
 impl Route {
@@ -18,9 +19,7 @@ impl Route {
     {
         let i = t.whole();
         LegAnswer {
-            x: self.line(Axis::X, i),
-            y: self.line(Axis::Y, i),
-            z: self.line(Axis::Z, i),
+            lines: Xyz::from_fn(|axis| self.line(axis, i)),
             next: self.next_break(i),
         }
     }
@@ -29,15 +28,14 @@ impl Route {
     fn next_break(&self, i: u16) -> Option<u16>
         ensures { result ≡ first_past i (route_path self.now).breaks }
     {
-        for k in 0..self.plan.count as usize {
-            if i < self.plan.legs[k].start {
-                return Some(self.plan.legs[k].start);
-            }
-        }
-        if i < self.plan.end {
-            Some(self.plan.end)
-        } else {
-            None
-        }
+        let end = self.plan.end;
+        first_start(self.plan.kept_legs(), i).or((i < end).then_some(end))
     }
+}
+
+/// The first start tick of legs above tick i.
+fn first_start(legs: &[Leg], i: u16) -> Option<u16>
+    ensures { result ≡ find (λ k. nat_lt i k) (map (λ l. l.start) legs.now) }
+{
+    legs.iter().map(|leg| leg.start).find(|start| i < *start)
 }

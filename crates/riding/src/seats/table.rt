@@ -1,10 +1,13 @@
 //! Reading and setting seats.
-ghost use Rattle.std.specs.Prelude.{◌≡◌, ℕ, ◌<◌, IfSome, None};
+ghost use Rattle.std.specs.Prelude.{◌≡◌, ℕ, None};
 ghost use Rattle.books.specs.Told.{refusal_told};
+ghost use Rattle.books.specs.Seats.{number_in};
 ghost use Rattle.riding.specs.Layer.{seat_refusal, sat};
-ghost use Rattle.riding.specs.Seats.{seats_of, told_number};
+ghost use Rattle.riding.specs.Seats.{seats_of};
 
 use crate::seats::Seats;
+use books::Seat;
+use fleet::Craft;
 use times::Refusal;
 
 impl Seats {
@@ -16,12 +19,10 @@ impl Seats {
     }
 
     /// The carrier that a craft rides on, if any.
-    pub(crate) fn carrier(&self, craft: u8) -> Option<u8>
-        requires { craft < 64 }
-        ensures value { result ≡ seats_of self.now craft }
-        ensures range { IfSome result (λ k. k < 64) }
+    pub(crate) fn carrier(&self, craft: Craft) -> Option<Craft>
+        ensures { number_in result ≡ seats_of self.now craft.number }
     {
-        self.table[craft as usize]
+        self.table[craft.place()]
     }
 
     /// Sets or empties a craft's seat.
@@ -30,24 +31,8 @@ impl Seats {
         ensures after { seats_of self.new ≡ sat craft carrier (seats_of self.old) }
         ensures same { ¬ (refusal_told result ≡ None) → self.new ≡ self.old }
     {
-        if let Some(refusal) = refusal_of(craft, carrier) {
-            return Err(refusal);
-        }
-        self.table[craft as usize] = carrier;
+        let seat = Seat::new(craft, carrier)?;
+        self.table[seat.craft.place()] = seat.carrier;
         Ok(())
-    }
-}
-
-/// Why a seat is not set: craft or carrier out of range, or a craft as its own carrier.
-fn refusal_of(craft: u8, carrier: Option<u8>) -> Option<Refusal>
-    ensures { told_number result ≡ seat_refusal craft carrier }
-{
-    if craft >= 64 {
-        return Some(Refusal::CraftRange);
-    }
-    match carrier {
-        Some(k) if k >= 64 => Some(Refusal::CraftRange),
-        Some(k) if k == craft => Some(Refusal::SameCraft),
-        _ => None,
     }
 }

@@ -1,45 +1,41 @@
-use Rattle.std.proofs.Common.{◌≡◌, ℕ, ◌+◌, ◌*◌, ◌<◌, ◌≤◌, List, get_or, take, drop, ℤ, nat_abs, sym, ap, ◌∙◌, subst, arith}
-use Rattle.rules.specs.Plans.{until}
+use Rattle.std.proofs.Common.{◌≡◌, ◌≤◌, true, List, length, ℤ, pos, nat_abs, sym, ap, ◌∙◌, subst, ap₂, arith, w32, SFits, length-take}
+use Rattle.rules.specs.Plans.{legs_right}
+use Rattle.fleet.specs.Axes.{axis_of}
 use Rattle.plans.specs.declared.plan.Leg.{Leg}
-use Rattle.plans.specs.declared.route.Route.{Route}
-use Rattle.plans.specs.Axes.{axis_of}
-use Rattle.plans.specs.Of.{legs_of, leg_of, plan_of, blank}
-use Rattle.plans.specs.Lines.{line_of, plus, legs_line, leg_line}
-use Rattle.rules.specs.Paths.{Axis}
+use Rattle.plans.specs.Of.{legs_of, plan_of}
+use Rattle.plans.specs.Lines.{line_of, plus, legs_line}
 use Rattle.plans.proofs.Sizes.{sum_within}
-use Rattle.plans.proofs.Tables.{no_more}
-use Rattle.plans.proofs.Casts.{Part, part_small, leg_right_at, sum_step, plus_zero}
 use Rattle.plans.proofs.Flown.{plan_line_is}
+use Rattle.plans.proofs.Casts.{small_fits, part_is}
 use Rattle.plans.proofs.Routed.{route_right}
 use Rattle.plans.proofs.route.Route.line.Goals as goal
 
-small : (r : Route) (k i : ℕ) (a : Axis) (m : ℤ × ℤ) → k < r.plan.count →
-    m ≡ leg_line ((leg_of (get_or r.plan.legs k blank)).speed a) (get_or r.plan.legs k blank).start (until (legs_of (drop (k + 1) (take r.plan.count r.plan.legs))) r.plan.end) i → Part m
-small r k i a m h e =
-    let q = route_right r in
-    let g = leg_right_at r.plan.count r.plan.legs k r.plan.end q.held h q.legs in
-    subst Part (sym e) (part_small _ _ _ i (g.0.speeds a) g.0.order (omega (arith, g.1, q.last)))
+pub legs_line-requires : goal.legs_line-requires
+legs_line-requires c =
+    let p = c.args.self.now.plan in
+    let q = route_right c.args.self.now in
+    let h = q.high in
+    record {
+      right = subst (λ (ls : List Leg). legs_right (legs_of ls) p.end ≡ true) (sym c.kept_legs.ensures) q.legs;
+      few = subst (λ (ls : List Leg). length ls ≤ 8) (sym c.kept_legs.ensures) (let n = length-take p.count p.legs in omega arith);
+      last = q.last;
+    }
 
-pub add-line-requires : goal.add-line-requires
-add-line-requires c =
-    let s = small c.args.self.now c.loop-k.k c.args.i (axis_of c.args.axis) c.part.result c.loop-k-test.true c.part.ensures in
-    let h = (route_right c.args.self.now).high in
-    record { base = (omega (arith, c.loop-k.invariant.1), s.base); slope = (omega (arith, c.loop-k.invariant.2), s.slope) }
-
-pub loop-k-preserved : goal.loop-k-preserved
-loop-k-preserved c =
-    let r = c.args.self.now in
-    let s = small r c.loop-k.k c.args.i (axis_of c.args.axis) c.part.result c.loop-k-test.true c.part.ensures in
-    let e = c.add-line.ensures in
-    let b : nat_abs (plus c.loop-k.line c.part.result).0 ≤ 1000000 + 50000000 * (c.loop-k.k + 1) = omega (arith, sum_within c.loop-k.line.0 c.part.result.0 _ _ c.loop-k.invariant.1 s.base) in
-    let v : nat_abs (plus c.loop-k.line c.part.result).1 ≤ 1000 * (c.loop-k.k + 1) = omega (arith, sum_within c.loop-k.line.1 c.part.result.1 _ _ c.loop-k.invariant.2 s.slope) in (
-      sum_step r.plan.count r.plan.legs c.loop-k.k r.plan.end (axis_of c.args.axis) c.args.i c.loop-k.line c.part.result c.add-line.result (route_right r).held c.loop-k-test.true c.part.ensures e ∙ c.loop-k.invariant.0,
-      subst (λ (l : ℤ × ℤ). nat_abs l.0 ≤ 1000000 + 50000000 * (c.loop-k.k + 1)) (sym e) b,
-      subst (λ (l : ℤ × ℤ). nat_abs l.1 ≤ 1000 * (c.loop-k.k + 1)) (sym e) v,
-    )
+pub add-requires : goal.add-requires
+add-requires c =
+    let p = c.args.self.now.plan in
+    let f : SFits w32 c.on.result = record { sfits = c.on.type_inv } in
+    let s = part_is w32 p.start c.args.axis c.on.result f c.on.ensures in
+    let h = subst (λ (z : ℤ). nat_abs z ≤ 1000000) (sym s) ((route_right c.args.self.now).starts (axis_of c.args.axis)) in
+    record {
+      base = small_fits _ 401000000 (sum_within _ c.legs_line.result.0 1000000 400000000 h c.legs_line.ensures.base) (omega arith);
+      slope = small_fits _ 8000 (sum_within (pos 0) c.legs_line.result.1 0 8000 (omega arith) c.legs_line.ensures.slope) (omega arith);
+    }
 
 pub returns : goal.returns
 returns c =
-    let r = c.args.self.now in
-    ap line_of (sym (ap (λ (xs : List Leg). plus c.loop-k.line (legs_line (legs_of xs) r.plan.end (axis_of c.args.axis) c.args.i)) (no_more r.plan.count r.plan.legs c.loop-k.k c.loop-k-test.false) ∙ plus_zero c.loop-k.line) ∙ c.loop-k.invariant.0)
-    ∙ plan_line_is (plan_of r.plan) (axis_of c.args.axis) c.args.i (route_right r).legs
+    let p = c.args.self.now.plan in
+    let f : SFits w32 c.on.result = record { sfits = c.on.type_inv } in
+    let s = part_is w32 p.start c.args.axis c.on.result f c.on.ensures in
+    ap line_of (c.add.ensures ∙ ap₂ (λ (z : ℤ) (m : ℤ × ℤ). plus (z, pos 0) m) s (c.legs_line.ensures.value ∙ ap (λ (ls : List Leg). legs_line (legs_of ls) p.end (axis_of c.args.axis) c.args.i) c.kept_legs.ensures))
+    ∙ plan_line_is (plan_of p) (axis_of c.args.axis) c.args.i (route_right c.args.self.now).legs

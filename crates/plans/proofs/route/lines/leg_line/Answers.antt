@@ -2,7 +2,7 @@ use Rattle.std.proofs.Common.{◌-◌, sym, refl, ◌∙◌, arith, w16}
 use Rattle.std.proofs.lemmas.Int.{to_z-of_z}
 use Rattle.plans.proofs.Sizes.{pair_≡}
 use Rattle.plans.proofs.Casts.{way_fits, way_is, minus_fits, minus_is, back_is, line_during, line_after}
-use Rattle.plans.proofs.route.lines.part_of.Goals as goal
+use Rattle.plans.proofs.route.lines.leg_line.Goals as goal
 
 pub overflow_mul-result : goal.overflow_mul-result
 overflow_mul-result c = way_fits c.from-speed.result c.from.result c.args.v c.args.from (c.from-speed.ensures ∙ to_z-of_z w16 c.args.v c.ranges.v) c.from.ensures c.requires.speed (omega arith)
