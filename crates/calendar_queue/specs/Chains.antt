@@ -5,8 +5,8 @@ use Rattle.std.proofs.lemmas.Bool.{both_ways, cases_Bool, cases_eq}
 use Rattle.times.specs.declared.moment.Moment.{Moment}
 use Rattle.calendar_queue.specs.Entries.{bucket, leads, lies}
 use Rattle.calendar_queue.specs.Links.{Table, stands, opens, Follows}
-use Rattle.calendar_queue.specs.Order.{leads_chain, leads_never, leads_total, lies_none, lies_one, lies_bucket, lies_below}
-use Rattle.calendar_queue.specs.Places.{Bounded, Comes, lies_slot, stands_slot, opens_slot, stands_at, opens_at, stands_one, opens_chain, places_total, follows_at, begins}
+use Rattle.calendar_queue.specs.Order.{leads_chain, leads_never, leads_total, lies_none, lies_one, lies_bucket, bucket_below}
+use Rattle.calendar_queue.specs.Places.{Bounded, Comes, lies_slot, stands_slot, opens_slot, stands_at, opens_at, stands_one, opens_chain, places_total, follows_at, begins, apart_empty, apart_opens}
 
 -- every place names what follows
 abbrev pub Right : Table → (ℕ → ℕ) → Type 0
@@ -42,15 +42,10 @@ module _ (t u : Table) (f g : ℕ → ℕ) (x p : ℕ) (m : Moment) (bd : Bounde
   apart k a h e = both_ways (lies (t k) a) (ap (λ i. lies (t i) a) e ∙ ap (λ o. lies o a) empty ∙ lies_none a) h
 
   place_apart : p ≡ x → ⊥
-  place_apart e =
-      let l : p < 12352 = omega arith in
-      apart p (bucket m) (sym (stands_slot t p (bucket m) l) ∙ sp) e
-
-  below : bucket m < 128
-  below = lies_below (Some m) (bucket m) (lies_bucket m)
+  place_apart = apart_empty t p x (bucket m) inside empty sp
 
   was : Follows t (bucket m) p (f p)
-  was = right p (bucket m) below sp
+  was = right p (bucket m) (bucket_below m) sp
 
   -- x comes before what followed p
   x_leads : f p < 12352 → leads x (Some m) (f p) (t (f p)) ≡ true
@@ -64,7 +59,7 @@ module _ (t u : Table) (f g : ℕ → ℕ) (x p : ℕ) (m : Moment) (bd : Bounde
   x_opens j = opens_slot u x j (u j) inside ∙ ap (λ o. leads x o j (u j)) put
 
   x_itself : opens u x x (u x) ≡ true → ⊥
-  x_itself h = both_ways (leads x (Some m) x (Some m)) (leads_never x (Some m)) (sym (x_opens x ∙ ap (leads x (Some m) x) put) ∙ h)
+  x_itself h = apart_opens u x x inside h refl
 
   at_x : Follows u (bucket m) x (f p)
   at_x = record {
@@ -198,17 +193,14 @@ module _ (t u : Table) (f g : ℕ → ℕ) (x p : ℕ) (m : Moment) (bd : Bounde
   x_stands : stands t x (bucket m) ≡ true
   x_stands = stands_slot t x (bucket m) inside ∙ x_lies
 
-  below' : bucket m < 128
-  below' = lies_below (t x) (bucket m) x_lies
-
   op' : opens t p x (t x) ≡ true
   op' = ap (opens t p x) full ∙ op
 
   before : Follows t (bucket m) p (f p)
-  before = right p (bucket m) below' sp
+  before = right p (bucket m) (bucket_below m) sp
 
   after_x : Follows t (bucket m) x (f x)
-  after_x = right x (bucket m) below' x_stands
+  after_x = right x (bucket m) (bucket_below m) x_stands
 
   -- x is what followed p
   pub named : f p ≡ x
@@ -226,11 +218,8 @@ module _ (t u : Table) (f g : ℕ → ℕ) (x p : ℕ) (m : Moment) (bd : Bounde
   x_opens' : (j : ℕ) (o : Option Moment) → opens t x j o ≡ leads x (t x) j o
   x_opens' j o = opens_slot t x j o inside
 
-  x_not_itself : opens t x x (t x) ≡ true → ⊥
-  x_not_itself h = both_ways _ (leads_never x (t x)) (sym (x_opens' x (t x)) ∙ h)
-
   p_apart : p ≡ x → ⊥
-  p_apart e = x_not_itself (subst (λ (k : ℕ). opens t k x (t x) ≡ true) e op')
+  p_apart = apart_opens t p x inside op'
 
   gone_lies : (j a : ℕ) → lies (u j) a ≡ true → j ≢ x
   gone_lies j a h e = both_ways _ (ap (λ (k : ℕ). lies (u k) a) e ∙ ap (λ o. lies o a) gone ∙ lies_none a) h
@@ -248,7 +237,7 @@ module _ (t u : Table) (f g : ℕ → ℕ) (x p : ℕ) (m : Moment) (bd : Bounde
   }
     where
       next_apart : f x < 12352 → f x ≢ x
-      next_apart l e = x_not_itself (subst (λ (k : ℕ). opens t x k (t k) ≡ true) e (after_x.after l))
+      next_apart l e = apart_opens t x (f x) l (after_x.after l) (sym e)
 
       in_t : (j : ℕ) → lies (u j) (bucket m) ≡ true → lies (t j) (bucket m) ≡ true
       in_t j lj = lies_back t u x but j (bucket m) (gone_lies j (bucket m) lj) lj
@@ -325,10 +314,10 @@ module _ (t u : Table) (f g : ℕ → ℕ) (x p : ℕ) (m : Moment) (bd : Bounde
       is_other np = follows_at u a a q q (f q) (g q) refl refl (sym (gk q nx np)) (q_now q a la nx np st)
 
 -- the other buckets keep their first entries
-pub heads_stay : (t u : Table) (f g : ℕ → ℕ) (x p : ℕ) (m : Moment) → Right t f → x < 12352 → But t u x → ((k : ℕ) → (k ≢ x) → (k ≢ p) → g k ≡ f k) → stands t p (bucket m) ≡ true → ((a : ℕ) → lies (t x) a ≡ true → a ≡ bucket m) →
-    (b : ℕ) → b < 128 → (b ≢ bucket m) → (g (12352 + b) ≡ f (12352 + b)) × (u (f (12352 + b)) ≡ t (f (12352 + b)))
-heads_stay t u f g x p m right inside but gk sp held b lb ne = (
-  gk (12352 + b) (λ e. omega arith) (λ e. ne (stands_one t p b (bucket m) (subst (λ (k : ℕ). stands t k b ≡ true) e (begins t b)) sp)),
+pub heads_stay : (t u : Table) (f : ℕ → ℕ) (x p : ℕ) (m : Moment) → Right t f → x < 12352 → But t u x → stands t p (bucket m) ≡ true → ((a : ℕ) → lies (t x) a ≡ true → a ≡ bucket m) →
+    (b : ℕ) → b < 128 → (b ≢ bucket m) → (12352 + b ≢ p) × (u (f (12352 + b)) ≡ t (f (12352 + b)))
+heads_stay t u f x p m right inside but sp held b lb ne = (
+  λ e. ne (stands_one t p b (bucket m) (subst (λ (k : ℕ). stands t k b ≡ true) e (begins t b)) sp),
   but (f (12352 + b)) (λ e.
       let l : f (12352 + b) < 12352 = omega arith in
       ne (held b (subst (λ (k : ℕ). lies (t k) b ≡ true) e ((right (12352 + b) b lb (begins t b)).inside l)))),

@@ -1,138 +1,139 @@
 -- What the writes of linking and unlinking leave in the two tables.
-use Rattle.std.specs.Prelude.{◌≡◌, ℕ, ◌+◌, ◌<◌, true, false, List, length, replicate, Some, None, Option, ◌≢◌, slice_set, refl}
-use Rattle.std.proofs.Common.{sym, ap, ◌∙◌, subst, ⊎_elim, arith}
-use Rattle.std.proofs.lemmas.List.{get_or_past, get_or-set_same, get_or-set_other, get_or-replicate, length-set, length-replicate}
-use Rattle.std.proofs.lemmas.Bool.{both_ways, cases_lt}
+use Rattle.std.specs.Prelude.{◌≡◌, ℕ, ◌+◌, ◌<◌, ◌≤◌, true, false, List, length, replicate, Some, None, Option, ◌≢◌, slice_set, refl}
+use Rattle.std.proofs.Common.{sym, ap, ◌∙◌, subst, arith}
+use Rattle.std.proofs.lemmas.List.{get_or-set_same, get_or-set_other, length-set}
+use Rattle.std.proofs.lemmas.Bool.{both_ways}
+use Rattle.std.proofs.lemmas.Option.{none-some, same_Some}
 use Rattle.times.specs.declared.moment.Moment.{Moment}
+use Rattle.queues.specs.declared.slot.Slot.{Slot}
+use Rattle.queues.specs.declared.entry.Entry.{Entry}
+use Rattle.queues.specs.Entries.{ahead, key}
 use Rattle.calendar_queue.specs.Entries.{bucket, leads, lies}
-use Rattle.calendar_queue.specs.Links.{table, links, stands, opens, Linked}
-use Rattle.calendar_queue.specs.Heads.{entry_at, head_of}
-use Rattle.calendar_queue.specs.Order.{lies_none, lies_one, lies_bucket}
-use Rattle.calendar_queue.specs.Places.{stands_below, apart_empty, apart_opens}
+use Rattle.calendar_queue.specs.Links.{table, named, number_or, links, Linked, Sought}
+use Rattle.calendar_queue.specs.Heads.{entry_at, head_of, OtherHeads, Kept}
+use Rattle.calendar_queue.specs.Order.{leads_empty, leads_both, lies_none, lies_one, lies_bucket}
+use Rattle.calendar_queue.specs.Tables.{empty_at}
+use Rattle.calendar_queue.specs.Places.{apart_empty}
 use Rattle.calendar_queue.specs.Chains.{linked_in, linked_out, heads_stay}
-use Rattle.calendar_queue.specs.Walks.{table_bounded, bucket_below}
+use Rattle.calendar_queue.specs.Walks.{table_bounded}
 
-pub entry_none : (n : ℕ) → entry_at n None ≡ None
+pub entry_none : (o : Option Slot) → entry_at o None ≡ None
 unfolding entry_at
-entry_none n = refl
+entry_none None = refl
+entry_none (Some s) = refl
 
-pub entry_some : (n : ℕ) (m : Moment) → entry_at n (Some m) ≡ Some (record { slot = n; moment = m })
+-- an entry read at a slot that holds a moment, and what an entry that was read says
+pub entry_some : (o : Option Slot) (t : Option Moment) (m : Moment) → number_or o < 12352 → t ≡ Some m → (e : Entry) × ((entry_at o t ≡ Some e) × (e.slot.number ≡ number_or o) × (e.moment ≡ m))
 unfolding entry_at
-entry_some n m = refl
+entry_some None t m l h = absurd (omega arith)
+entry_some (Some s) t m l h = (record { moment = m; slot = s }, (ap (entry_at (Some s)) h, refl, refl))
+
+pub entry_held : (o : Option Slot) (t : Option Moment) (e : Entry) → entry_at o t ≡ Some e → (e.slot.number ≡ number_or o) × (t ≡ Some e.moment)
+unfolding entry_at
+entry_held None t e p = absurd (none-some e p)
+entry_held (Some s) None e p = absurd (none-some e p)
+entry_held (Some s) (Some m) e p =
+    let q : record { moment = m; slot = s } ≡ e = same_Some _ _ p in
+    (ap (λ (x : Entry). x.slot.number) (sym q), ap (λ (x : Entry). Some x.moment) q)
+
+-- no entry that was read comes before nothing, and one that was read comes before what it is ahead of
+pub none_leads : (o : Option Slot) (t : Option Moment) (j : ℕ) (w : Option Moment) → (12352 ≤ number_or o → t ≡ None) → entry_at o t ≡ None → leads (number_or o) t j w ≡ false
+unfolding entry_at
+none_leads None t j w b h = ap (λ (y : Option Moment). leads 12480 y j w) (b (omega arith)) ∙ leads_empty 12480 j w
+none_leads (Some s) None j w b h = leads_empty s.number j w
+none_leads (Some s) (Some m) j w b h = absurd (none-some _ (sym h))
+
+pub some_leads : (o : Option Slot) (t : Option Moment) (e : Entry) (j : ℕ) (w : Moment) → entry_at o t ≡ Some e → leads (number_or o) t j (Some w) ≡ ahead (key e) (j, w)
+some_leads o t e j w h =
+    let p = entry_held o t e h in
+    leads_both (number_or o) j t (Some w) e.moment w p.1 refl ∙ ap (λ (n : ℕ). ahead (n, e.moment) (j, w)) (sym p.0)
 
 -- empty tables
-pub empty_table : (n k : ℕ) → table (replicate n None) k ≡ None
-empty_table n k =
-    ⊎_elim
-    (λ l. get_or-replicate n k None None l)
-    (λ l. get_or_past (replicate n None) k None (omega (arith, length-replicate {A = Option Moment} n None)))
-    (cases_lt k n)
-
-pub empty_linked : (n k : ℕ) → k ≡ 12480 → Linked (replicate n None) (replicate k 12480)
-empty_linked n k e p b lb s = record {
+pub empty_linked : (n k : ℕ) → Linked (replicate n None) (replicate k None)
+empty_linked n k p b lb s = record {
   inside = λ l. absurd (high l);
   after = λ l. absurd (high l);
   some = λ j h. absurd (empty j h);
   least = λ j h. absurd (empty j h);
 }
   where
-    below : p < 12480
-    below = stands_below (table (replicate n None)) p b lb s
-
-    high : links (replicate k 12480) p < 12352 → ⊥
-    high l = let b = below in let r : links (replicate k 12480) p ≡ 12480 = get_or-replicate k p 12480 0 (omega arith) in omega arith
+    high : links (replicate k None) p < 12352 → ⊥
+    high l = let r : links (replicate k None) p ≡ 12480 = ap number_or (empty_at k p) in omega arith
 
     empty : (j : ℕ) → lies (table (replicate n None) j) b ≢ true
-    empty j h = both_ways _ (ap (λ o. lies o b) (empty_table n j) ∙ lies_none b) h
+    empty j h = both_ways _ (ap (λ o. lies o b) (empty_at n j) ∙ lies_none b) h
 
-pub empty_head : (n k b : ℕ) → head_of (replicate n None) (replicate k 12480) b ≡ None
-empty_head n k b = ap (entry_at _) (empty_table n _) ∙ entry_none _
+pub empty_head : (n k b : ℕ) → head_of (replicate n None) (replicate k None) b ≡ None
+empty_head n k b = ap (entry_at _) (empty_at n _) ∙ entry_none _
 
--- a slot of the table after a write at slot x
-pub table_at : (ms : List (Option Moment)) (x : ℕ) (o : Option Moment) → length ms ≡ 12352 → x < 12352 → table (slice_set ms x o) x ≡ o
-table_at ms x o e l = get_or-set_same ms x o None (omega arith)
+module _ (ms : List (Option Moment)) (ns : List (Option Slot)) (e : Entry) (p : ℕ) (r : Option Slot) (held : length ms ≡ 12352) (placed : length ns ≡ 12480) (linked : Linked ms ns)
+    (found : Sought ms ns e p) where
+  head_as : (us : List (Option Moment)) (vs : List (Option Slot)) (b : ℕ) → named vs (12352 + b) ≡ named ns (12352 + b) → table us (links ns (12352 + b)) ≡ table ms (links ns (12352 + b)) → head_of us vs b ≡ head_of ms ns b
+  head_as us vs b q f = ap (λ (o : Option Slot). entry_at o (table us (number_or o))) q ∙ ap (entry_at (named ns (12352 + b))) f
 
-pub table_but : (ms : List (Option Moment)) (x : ℕ) (o : Option Moment) (k : ℕ) → (k ≢ x) → table (slice_set ms x o) k ≡ table ms k
-table_but ms x o k ne = get_or-set_other ms x k o None ne
+  -- the slot was empty, and r is what the place named
+  module _ (empty : table ms e.slot.number ≡ None) (read : r ≡ named ns p) where
+    abbrev put_in : List (Option Slot)
+    put_in = slice_set (slice_set ns e.slot.number r) p (Some e.slot)
 
-module _ (ms : List (Option Moment)) (ns : List ℕ) (x p : ℕ) (m : Moment) (held : length ms ≡ 12352) (placed : length ns ≡ 12480) (linked : Linked ms ns) (inside : x < 12352)
-    (sp : stands (table ms) p (bucket m) ≡ true) (op : opens (table ms) p x (Some m) ≡ true) (last : leads (links ns p) (table ms (links ns p)) x (Some m) ≡ false) where
-  pub place_below : p < 12480
-  place_below = stands_below (table ms) p (bucket m) (bucket_below m) sp
+    apart : p ≡ e.slot.number → ⊥
+    apart = apart_empty (table ms) p e.slot.number (bucket e.moment) e.slot.inside empty found.here
 
-  head_as : (us : List (Option Moment)) (vs : List ℕ) (b : ℕ) → links vs (12352 + b) ≡ links ns (12352 + b) → table us (links ns (12352 + b)) ≡ table ms (links ns (12352 + b)) → head_of us vs b ≡ head_of ms ns b
-  head_as us vs b e f = ap (λ (n : ℕ). entry_at n (table us n)) e ∙ ap (entry_at (links ns (12352 + b))) f
+    at_x : links put_in e.slot.number ≡ links ns p
+    at_x =
+        ap number_or
+        (get_or-set_other (slice_set ns e.slot.number r) p e.slot.number (Some e.slot) None (λ q. apart (sym q))
+        ∙ get_or-set_same ns e.slot.number r None (let i = e.slot.inside in omega arith)
+        ∙ read)
 
-  -- the slot x was empty
-  module _ (empty : table ms x ≡ None) where
-    apart : p ≡ x → ⊥
-    apart = apart_empty (table ms) p x (bucket m) inside empty sp
+    at_p : links put_in p ≡ e.slot.number
+    at_p = ap number_or (get_or-set_same (slice_set ns e.slot.number r) p (Some e.slot) None (let l = found.below in let q = length-set ns e.slot.number r in omega arith))
 
-    at_x : links (slice_set (slice_set ns x (links ns p)) p x) x ≡ links ns p
-    at_x = get_or-set_other (slice_set ns x (links ns p)) p x x 0 (λ e. apart (sym e)) ∙ get_or-set_same ns x (links ns p) 0 (omega arith)
+    at_k : (k : ℕ) → (k ≢ e.slot.number) → (k ≢ p) → named put_in k ≡ named ns k
+    at_k k nx np = get_or-set_other (slice_set ns e.slot.number r) p k (Some e.slot) None np ∙ get_or-set_other ns e.slot.number k r None nx
 
-    at_p : links (slice_set (slice_set ns x (links ns p)) p x) p ≡ x
-    at_p = get_or-set_same (slice_set ns x (links ns p)) p x 0 (let l = place_below in let e = length-set ns x (links ns p) in omega arith)
-
-    at_k : (k : ℕ) → (k ≢ x) → (k ≢ p) → links (slice_set (slice_set ns x (links ns p)) p x) k ≡ links ns k
-    at_k k nx np = get_or-set_other (slice_set ns x (links ns p)) p k x 0 np ∙ get_or-set_other ns x k (links ns p) 0 nx
-
-    pub link_right : Linked (slice_set ms x (Some m)) (slice_set (slice_set ns x (links ns p)) p x)
+    link_right : Linked (slice_set ms e.slot.number (Some e.moment)) (slice_set (slice_set ns e.slot.number r) p (Some e.slot))
     link_right =
-        linked_in (table ms) (table (slice_set ms x (Some m))) (links ns) (links (slice_set (slice_set ns x (links ns p)) p x)) x p m (table_bounded ms held) linked inside empty
-        (table_at ms x (Some m) held inside) (table_but ms x (Some m)) at_x at_p at_k sp op last
+        linked_in (table ms) (table (slice_set ms e.slot.number (Some e.moment))) (links ns) (links put_in) e.slot.number p e.moment (table_bounded ms held) linked e.slot.inside empty
+        (get_or-set_same ms e.slot.number (Some e.moment) None (let i = e.slot.inside in omega arith)) (λ k ne. get_or-set_other ms e.slot.number k (Some e.moment) None ne) at_x at_p (λ k nx np. ap number_or (at_k k nx np)) found.here found.before found.last
 
-    pub link_heads : (b : ℕ) → b < 128 → (b ≢ bucket m) → head_of (slice_set ms x (Some m)) (slice_set (slice_set ns x (links ns p)) p x) b ≡ head_of ms ns b
+    link_heads : OtherHeads ms ns (slice_set ms e.slot.number (Some e.moment)) (slice_set (slice_set ns e.slot.number r) p (Some e.slot)) e.moment
     link_heads b lb ne =
-        let h = heads_stay (table ms) (table (slice_set ms x (Some m))) (links ns) (links (slice_set (slice_set ns x (links ns p)) p x)) x p m linked inside (table_but ms x (Some m)) at_k sp
+        let i = e.slot.inside in
+        let h = heads_stay (table ms) (table (slice_set ms e.slot.number (Some e.moment))) (links ns) e.slot.number p e.moment linked e.slot.inside (λ k ne. get_or-set_other ms e.slot.number k (Some e.moment) None ne) found.here
         (λ a l. absurd (both_ways _ (ap (λ o. lies o a) empty ∙ lies_none a) l)) b lb ne in
-        head_as _ _ b h.0 h.1
+        head_as _ _ b (at_k (12352 + b) (λ q. omega arith) h.0) h.1
 
-  -- the slot x held m
-  module _ (full : table ms x ≡ Some m) where
-    apart' : p ≡ x → ⊥
-    apart' = apart_opens (table ms) p x inside (ap (opens (table ms) p x) full ∙ op)
+    -- the same of an index that equals the slot
+    pub link_kept : (k : ℕ) → k ≡ e.slot.number → Kept ms ns e.moment (slice_set ms k (Some e.moment)) (slice_set (slice_set ns k r) p (Some e.slot))
+    link_kept k i =
+        subst
+        (λ (k : ℕ). Kept ms ns e.moment (slice_set ms k (Some e.moment)) (slice_set (slice_set ns k r) p (Some e.slot)))
+        (sym i)
+        (link_right, link_heads)
 
-    at_p' : links (slice_set ns p (links ns x)) p ≡ links ns x
-    at_p' = get_or-set_same ns p (links ns x) 0 (let l = place_below in omega arith)
+  -- the slot held the moment, and r is what the slot named
+  module _ (full : table ms e.slot.number ≡ Some e.moment) (read : r ≡ named ns e.slot.number) where
+    at_p' : links (slice_set ns p r) p ≡ links ns e.slot.number
+    at_p' = ap number_or (get_or-set_same ns p r None (let l = found.below in omega arith) ∙ read)
 
-    at_k' : (k : ℕ) → (k ≢ x) → (k ≢ p) → links (slice_set ns p (links ns x)) k ≡ links ns k
-    at_k' k nx np = get_or-set_other ns p k (links ns x) 0 np
+    at_k' : (k : ℕ) → (k ≢ p) → named (slice_set ns p r) k ≡ named ns k
+    at_k' k np = get_or-set_other ns p k r None np
 
-    pub unlink_right : Linked (slice_set ms x None) (slice_set ns p (links ns x))
+    unlink_right : Linked (slice_set ms e.slot.number None) (slice_set ns p r)
     unlink_right =
-        linked_out (table ms) (table (slice_set ms x None)) (links ns) (links (slice_set ns p (links ns x))) x p m (table_bounded ms held) linked inside full
-        (table_at ms x None held inside) (table_but ms x None) at_p' at_k' sp op last
+        linked_out (table ms) (table (slice_set ms e.slot.number None)) (links ns) (links (slice_set ns p r)) e.slot.number p e.moment (table_bounded ms held) linked e.slot.inside full
+        (get_or-set_same ms e.slot.number None None (let i = e.slot.inside in omega arith)) (λ k ne. get_or-set_other ms e.slot.number k None None ne) at_p' (λ k nx np. ap number_or (at_k' k np)) found.here found.before found.last
 
-    pub unlink_heads : (b : ℕ) → b < 128 → (b ≢ bucket m) → head_of (slice_set ms x None) (slice_set ns p (links ns x)) b ≡ head_of ms ns b
+    unlink_heads : OtherHeads ms ns (slice_set ms e.slot.number None) (slice_set ns p r) e.moment
     unlink_heads b lb ne =
-        let h = heads_stay (table ms) (table (slice_set ms x None)) (links ns) (links (slice_set ns p (links ns x))) x p m linked inside (table_but ms x None) at_k' sp
-        (λ a l. lies_one (table ms x) a (bucket m) l (ap (λ o. lies o (bucket m)) full ∙ lies_bucket m)) b lb ne in
-        head_as _ _ b h.0 h.1
+        let h = heads_stay (table ms) (table (slice_set ms e.slot.number None)) (links ns) e.slot.number p e.moment linked e.slot.inside (λ k ne. get_or-set_other ms e.slot.number k None None ne) found.here
+        (λ a l. lies_one (table ms e.slot.number) a (bucket e.moment) l (ap (λ o. lies o (bucket e.moment)) full ∙ lies_bucket e.moment)) b lb ne in
+        head_as _ _ b (at_k' (12352 + b) h.0) h.1
 
--- the writes as the code does them, at indices that equal the slot and the place
-pub link_writes : (P : List (Option Moment) → List ℕ → Type 0) (ms : List (Option Moment)) (ns : List ℕ) (o : Option Moment) (x p i j k l : ℕ) → i ≡ p → j ≡ x → k ≡ p → l ≡ x →
-    P (slice_set ms x o) (slice_set (slice_set ns x (links ns p)) p x) → P (slice_set ms l o) (slice_set (slice_set ns j (links ns i)) k x)
-link_writes P ms ns o x p i j k l a b c d h =
-    subst (λ (l : ℕ). P (slice_set ms l o) (slice_set (slice_set ns j (links ns i)) k x)) (sym d)
-    (subst (λ (k : ℕ). P (slice_set ms x o) (slice_set (slice_set ns j (links ns i)) k x)) (sym c)
-    (subst (λ (j : ℕ). P (slice_set ms x o) (slice_set (slice_set ns j (links ns i)) p x)) (sym b)
-    (subst (λ (i : ℕ). P (slice_set ms x o) (slice_set (slice_set ns x (links ns i)) p x)) (sym a) h)))
-
-pub unlink_writes : (P : List (Option Moment) → List ℕ → Type 0) (ms : List (Option Moment)) (ns : List ℕ) (o : Option Moment) (x p i j k : ℕ) → i ≡ x → j ≡ p → k ≡ x →
-    P (slice_set ms x o) (slice_set ns p (links ns x)) → P (slice_set ms k o) (slice_set ns j (links ns i))
-unlink_writes P ms ns o x p i j k a b c h =
-    subst (λ (k : ℕ). P (slice_set ms k o) (slice_set ns j (links ns i))) (sym c)
-    (subst (λ (j : ℕ). P (slice_set ms x o) (slice_set ns j (links ns i))) (sym b)
-    (subst (λ (i : ℕ). P (slice_set ms x o) (slice_set ns p (links ns i))) (sym a) h))
-
--- the start of a bucket names no slot, an empty one, or one with a moment
-pub head_none : (ms : List (Option Moment)) (ns : List ℕ) (b i : ℕ) → i ≡ 12352 + b → table ms (links ns i) ≡ None → None ≡ head_of ms ns b
-head_none ms ns b i e f = sym (ap (entry_at _) (subst (λ (k : ℕ). table ms (links ns k) ≡ None) e f) ∙ entry_none _)
-
-pub head_some : (ms : List (Option Moment)) (ns : List ℕ) (b i : ℕ) (m : Moment) → i ≡ 12352 + b → table ms (links ns i) ≡ Some m → Some (record { slot = links ns i; moment = m }) ≡ head_of ms ns b
-head_some ms ns b i m e f =
-    subst
-    (λ (k : ℕ). Some (record { slot = links ns i; moment = m }) ≡ entry_at (links ns k) (table ms (links ns k)))
-    e
-    (sym (ap (entry_at (links ns i)) f ∙ entry_some (links ns i) m))
+    pub unlink_kept : (k : ℕ) → k ≡ e.slot.number → Kept ms ns e.moment (slice_set ms k None) (slice_set ns p r)
+    unlink_kept k i =
+        subst
+        (λ (k : ℕ). Kept ms ns e.moment (slice_set ms k None) (slice_set ns p r))
+        (sym i)
+        (unlink_right, unlink_heads)

@@ -1,13 +1,13 @@
 -- A tournament of entries: each inner node holds the better of the two below it, so node 1 holds the best of all.
 use Rattle.std.specs.Prelude.{◌≡◌, ℕ, ◌+◌, ◌*◌, ◌<◌, cond, List, Some, None, Option, ◌≢◌, slice_index_or}
-use Rattle.calendar_queue.specs.declared.entry.Entry.{Entry}
-use Rattle.calendar_queue.specs.Entries.{ahead}
+use Rattle.queues.specs.declared.entry.Entry.{Entry}
+use Rattle.queues.specs.Entries.{comes_before}
 
 -- the better of two entries, of which either may be missing
 unfoldable pub better : Option Entry → Option Entry → Option Entry
 better None y = y
 better (Some a) None = Some a
-better (Some a) (Some b) = cond (ahead b.slot b.moment a.slot a.moment) (Some b) (Some a)
+better (Some a) (Some b) = Some (cond (comes_before b a) b a)
 
 abbrev pub node : List (Option Entry) → ℕ → Option Entry
 node ns i = slice_index_or ns i None

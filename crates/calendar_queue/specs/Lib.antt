@@ -6,6 +6,7 @@ pub mod Calendars
 pub mod Held
 pub mod Bests
 pub mod Order
+pub mod Tables
 pub mod Places
 pub mod Walks
 pub mod Chains

@@ -1,54 +1,31 @@
 -- The tournament: what a played match changes, and that node 1 holds the best.
-use Rattle.std.specs.Prelude.{◌≡◌, ℕ, zero, suc, ◌+◌, ◌-◌, ◌*◌, ◌/◌, ◌<◌, ◌≤◌, Bool, true, false, cond, ◌⊎◌, List, length, replicate, Some, None, Option, ◌==◌, ◌≢◌, nat_eq, slice_index_or, slice_set, refl}
+use Rattle.std.specs.Prelude.{◌≡◌, ℕ, zero, suc, ◌+◌, ◌-◌, ◌*◌, ◌/◌, ◌<◌, ◌≤◌, Bool, false, cond, ◌⊎◌, List, length, replicate, Some, None, Option, ◌≢◌, slice_index_or, slice_set, refl}
 use Rattle.std.proofs.Common.{sym, ap, ◌∙◌, subst, inl, inr, ⊎_elim, arith}
-use Rattle.std.proofs.Math.Logic.{∥∥₁_elim}
 use mathlib.Core.HLevel.{Π_prop, →_prop}
-use base.Stored.{Coded-set, coded_via, coded⊎, coded×, coded_unit, coded_ℕ, coded_bool}
-use Rattle.std.proofs.lemmas.List.{get_or_past, get_or_read, get_or-set_same, get_or-set_other, get_or-replicate, length-replicate}
-use Rattle.std.proofs.lemmas.Bool.{both_ways, cases_Bool, cases_lt, cases_eq, eq-eqb, ne_eqb}
-use Rattle.times.specs.declared.moment.Moment.{Moment}
-use Rattle.times.proofs.Times.{time_≡, moment_≡}
-use Rattle.calendar_queue.specs.declared.entry.Entry.{Entry}
-use Rattle.calendar_queue.specs.Entries.{in_order, ahead}
+use Rattle.std.specs.Coded.{Coded-set, coded_option}
+use Rattle.std.proofs.lemmas.List.{get_or_read, get_or-set_same, get_or-set_other}
+use Rattle.std.proofs.lemmas.Bool.{cases_Bool, cases_lt, cases_eq}
+use Rattle.std.proofs.lemmas.Option.{none-some, same_Some}
+use Rattle.queues.specs.declared.entry.Entry.{Entry}
+use Rattle.queues.specs.contracts.entry.Entry as entry
+use Rattle.queues.specs.Entries.{ahead, key}
 use Rattle.calendar_queue.specs.Crowns.{better, node, Won, Matched, MatchedBut}
-use Rattle.calendar_queue.specs.Order.{ahead_is, ahead_chain, ahead_never, not_ahead_chain}
+use Rattle.calendar_queue.specs.Tables.{empty_at}
+use Rattle.queues.specs.EntryOrder.{keys, ahead_never}
 
--- entries are a set: their numbers tell them apart
-unfoldable numbers : Option Entry → Unit {0} ⊎ (ℕ × (ℕ × (ℕ × Bool)))
-numbers None = inl tt
-numbers (Some e) = inr (e.slot, (e.moment.time.n, (e.moment.time.d, e.moment.after)))
-
-abbrev picked : Unit {0} ⊎ (ℕ × (ℕ × (ℕ × Bool))) → ℕ × (ℕ × (ℕ × Bool))
-picked (inl t) = (0, (0, (0, false)))
-picked (inr v) = v
-
-numbers_one : (x y : Option Entry) → numbers x ≡ numbers y → x ≡ y
-unfolding numbers
-numbers_one None None p = refl
-numbers_one None (Some b) p = let z : ◌≡◌ {A = ℕ} 0 1 = cc in absurd (omega arith)
-numbers_one (Some a) None p = let z : ◌≡◌ {A = ℕ} 0 1 = cc in absurd (omega arith)
-numbers_one (Some a) (Some b) p =
-    let s : a.slot ≡ b.slot = ap (λ v. (picked v).0) p in
-    let n : a.moment.time.n ≡ b.moment.time.n = ap (λ v. (picked v).1.0) p in
-    let d : a.moment.time.d ≡ b.moment.time.d = ap (λ v. (picked v).1.1.0) p in
-    let f : a.moment.after ≡ b.moment.after = ap (λ v. (picked v).1.1.1) p in
-    λ i. Some (record { slot = s i; moment = moment_≡ a.moment b.moment (time_≡ a.moment.time b.moment.time n d) f i })
-
+-- entries are a set
 pub entries_set : (x y : Option Entry) (p q : x ≡ y) → p ≡ q
-entries_set = Coded-set (coded_via (coded⊎ coded_unit (coded× coded_ℕ (coded× coded_ℕ (coded× coded_ℕ coded_bool)))) numbers numbers_one)
+entries_set = Coded-set (coded_option (entry.the_row).coded)
 
-pub matched_known : (ns : List (Option Entry)) → ∥ Matched ns ∥₁ → Matched ns
-matched_known ns h = ∥∥₁_elim h (Π_prop (λ i. →_prop (→_prop (entries_set _ _)))) (λ m. m)
+pub matched_prop : (ns : List (Option Entry)) (x y : Matched ns) → x ≡ y
+matched_prop ns = Π_prop (λ i. →_prop (→_prop (entries_set _ _)))
 
 -- where y is an entry, x is one too, and y is not ahead of it
 abbrev pub Under : Option Entry → Option Entry → Type 0
-Under x y = (e : Entry) → y ≡ Some e → (a : Entry) × ((x ≡ Some a) × (ahead e.slot e.moment a.slot a.moment ≡ false))
-
-same_entry : (x : Option Entry) (a b : Entry) → x ≡ Some a → x ≡ Some b → a ≡ b
-same_entry x a b p q = cc
+Under x y = (e : Entry) → y ≡ Some e → (a : Entry) × ((x ≡ Some a) × (ahead (key e) (key a) ≡ false))
 
 pub under_self : (x : Option Entry) → Under x x
-under_self x e p = (e, (p, ahead_never e.slot e.moment))
+under_self x e p = (e, (p, ahead_never (key e)))
 
 pub under_chain : (x y z : Option Entry) → Under x y → Under y z → Under x z
 under_chain x y z f g e p =
@@ -57,23 +34,16 @@ under_chain x y z f g e p =
       s.0,
       (
         s.1.0,
-        not_ahead_chain e.slot r.0.slot s.0.slot e.moment r.0.moment s.0.moment r.1.1 s.1.1,
+        keys.chain (key e) (key r.0) (key s.0) r.1.1 s.1.1,
       ),
     )
 
 under_none : (x : Option Entry) → Under x None
-under_none x e p = let z : ◌≡◌ {A = ℕ} 0 1 = cc in absurd (omega arith)
+under_none x e p = absurd (none-some e p)
 
-ahead_apart : (i j : ℕ) (x y : Moment) → ahead i x j y ≡ true → ahead j y i x ≡ false
-ahead_apart i j x y h =
-    ⊎_elim
-    (λ t. absurd (both_ways (ahead i x i x) (ahead_never i x) (ahead_chain i j i x y x h t)))
-    (λ f. f)
-    (cases_Bool (ahead j y i x))
-
-under_some : (a b : Entry) → ahead b.slot b.moment a.slot a.moment ≡ false → Under (Some a) (Some b)
+under_some : (a b : Entry) → ahead (key b) (key a) ≡ false → Under (Some a) (Some b)
 under_some a b h e p =
-    (a, (refl, subst (λ (k : Entry). ahead k.slot k.moment a.slot a.moment ≡ false) (same_entry (Some b) b e refl p) h))
+    (a, (refl, subst (λ (k : Entry). ahead (key k) (key a) ≡ false) (same_Some b e p) h))
 
 pub better_both : (x y : Option Entry) → Under (better x y) x × Under (better x y) y
 unfolding better
@@ -81,9 +51,9 @@ better_both None y = (under_none y, under_self y)
 better_both (Some a) None = (under_self (Some a), under_none (Some a))
 better_both (Some a) (Some b) =
     ⊎_elim
-    (λ t. subst (λ (v : Bool). Under (cond v (Some b) (Some a)) (Some a) × Under (cond v (Some b) (Some a)) (Some b)) (sym t) (under_some b a (ahead_apart b.slot a.slot b.moment a.moment t), under_self (Some b)))
-    (λ t. subst (λ (v : Bool). Under (cond v (Some b) (Some a)) (Some a) × Under (cond v (Some b) (Some a)) (Some b)) (sym t) (under_self (Some a), under_some a b t))
-    (cases_Bool (ahead b.slot b.moment a.slot a.moment))
+    (λ t. subst (λ (v : Bool). Under (Some (cond v b a)) (Some a) × Under (Some (cond v b a)) (Some b)) (sym t) (under_some b a (keys.one_way (key b) (key a) t), under_self (Some b)))
+    (λ t. subst (λ (v : Bool). Under (Some (cond v b a)) (Some a) × Under (Some (cond v b a)) (Some b)) (sym t) (under_self (Some a), under_some a b t))
+    (cases_Bool (ahead (key b) (key a)))
 
 pub better_one : (x y : Option Entry) → (better x y ≡ x) ⊎ (better x y ≡ y)
 unfolding better
@@ -91,9 +61,9 @@ better_one None y = inr refl
 better_one (Some a) None = inl refl
 better_one (Some a) (Some b) =
     ⊎_elim
-    (λ t. inr (ap (λ v. cond v (Some b) (Some a)) t))
-    (λ t. inl (ap (λ v. cond v (Some b) (Some a)) t))
-    (cases_Bool (ahead b.slot b.moment a.slot a.moment))
+    (λ t. inr (ap (λ v. Some (cond v b a)) t))
+    (λ t. inl (ap (λ v. Some (cond v b a)) t))
+    (cases_Bool (ahead (key b) (key a)))
 
 module _ (ns : List (Option Entry)) (matched : Matched ns) where
   -- a node is under neither of those below it
@@ -169,37 +139,9 @@ match_step ns j size p l m i ip il ne = ⊎_elim here other (cases_eq i j)
 pub all_matched : (ns : List (Option Entry)) (j : ℕ) → j ≡ 0 → MatchedBut ns j → Matched ns
 all_matched ns j e m i p l = m i p l (λ q. omega arith)
 
--- the leaves after a write at one of them
-pub leaf_at : (ns : List (Option Entry)) (c b : ℕ) (v : Option Entry) → length ns ≡ 256 → b < 128 → node (slice_set ns (128 + c) v) (128 + b) ≡ cond (b == c) v (node ns (128 + b))
-leaf_at ns c b v size l =
-    ⊎_elim
-    (λ (e : b ≡ c). let t : nat_eq b c ≡ true = eq-eqb b c e in rw (t, ← e) (get_or-set_same ns (128 + b) v None (omega arith)))
-    (λ (ne : b ≡ c → ⊥). let t : nat_eq b c ≡ false = ne_eqb b c ne in rw t (get_or-set_other ns (128 + c) (128 + b) v None (λ q. ne (omega arith))))
-    (cases_eq b c)
-
-pub no_nodes : (n k : ℕ) → node (replicate n None) k ≡ None
-no_nodes n k =
-    ⊎_elim
-    (λ l. get_or-replicate n k None None l)
-    (λ l. get_or_past (replicate n None) k None (omega (arith, length-replicate {A = Option Entry} n None)))
-    (cases_lt k n)
-
 pub no_matches : (n : ℕ) → Matched (replicate n None)
 unfolding better
-no_matches n i p l = no_nodes n i ∙ sym (λ t. better (no_nodes n (2 * i) t) (no_nodes n (2 * i + 1) t))
-
--- the three cases of a match
-pub better_none : (x y : Option Entry) → x ≡ None → y ≡ better x y
-unfolding better
-better_none x y e = subst (λ (v : Option Entry). y ≡ better v y) (sym e) refl
-
-pub better_left : (x y : Option Entry) (l : Entry) → x ≡ Some l → y ≡ None → Some l ≡ better x y
-unfolding better
-better_left x y l e f = sym (λ t. better (e t) (f t))
-
-pub better_played : (x y : Option Entry) (l r : Entry) (t : Bool) → x ≡ Some l → y ≡ Some r → t ≡ in_order r.slot r.moment l.slot l.moment → cond t (Some r) (Some l) ≡ better x y
-unfolding better
-better_played x y l r t e f g = ap (λ v. cond v (Some r) (Some l)) (g ∙ ahead_is r.slot l.slot r.moment l.moment) ∙ sym (λ i. better (e i) (f i))
+no_matches n i p l = empty_at n i ∙ sym (λ t. better (empty_at n (2 * i) t) (empty_at n (2 * i + 1) t))
 
 -- one turn of the replay, with the two nodes as they were read
 pub replayed : (ns : List (Option Entry)) (j : ℕ) (x y v : Option Entry) → length ns ≡ 256 → 0 < j → j < 128 → x ≡ slice_index_or ns (2 * j) x → y ≡ slice_index_or ns (2 * j + 1) y → v ≡ better x y → MatchedBut ns j → MatchedBut (slice_set ns j v) (j / 2)

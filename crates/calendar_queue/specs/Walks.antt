@@ -2,20 +2,20 @@
 use Rattle.std.specs.Prelude.{◌≡◌, ℕ, zero, suc, ◌<◌, ◌≤◌, Bool, true, false, cond, ◌&&◌, List, length, Some, None, Option}
 use Rattle.std.proofs.Common.{sym, ap, ◌∙◌, subst, ⊎_elim, arith}
 use Rattle.std.proofs.Math.Bool.{Bool-set}
-use Rattle.std.proofs.Math.Logic.{∥∥₁_elim}
 use mathlib.Core.HLevel.{Π_prop, →_prop}
 use Rattle.std.proofs.Math.Bridge.{le_prop}
 use Rattle.std.proofs.lemmas.List.{get_or_past}
 use Rattle.std.proofs.lemmas.Bool.{both_ways, cases_Bool, cases_lt, cases_eq, and_parts, and_from, and_right}
 use Rattle.times.specs.declared.moment.Moment.{Moment}
+use Rattle.queues.specs.declared.slot.Slot.{Slot}
 use Rattle.calendar_queue.specs.Entries.{bucket, leads, lies}
 use Rattle.calendar_queue.specs.Links.{Table, table, links, stands, opens, Follows, Linked}
-use Rattle.calendar_queue.specs.Order.{leads_never, leads_empty, lies_bucket, lies_below}
-use Rattle.calendar_queue.specs.Places.{Bounded, stands_slot, opens_slot, opens_chain}
+use Rattle.calendar_queue.specs.Order.{leads_never, leads_empty, bucket_below}
+use Rattle.calendar_queue.specs.Places.{Bounded, stands_slot, stands_below, opens_slot, opens_chain}
 use Rattle.calendar_queue.specs.Chains.{Right}
 
--- the links are right, also where that is known only as a fact
-pub follows_prop : (t : Table) (b p n : ℕ) (x y : Follows t b p n) → x ≡ y
+-- any two proofs that the links are right are one
+follows_prop : (t : Table) (b p n : ℕ) (x y : Follows t b p n) → x ≡ y
 follows_prop t b p n x y i = record {
   inside = →_prop (Bool-set _ _) x.inside y.inside i;
   after = →_prop (Bool-set _ _) x.after y.after i;
@@ -23,9 +23,8 @@ follows_prop t b p n x y i = record {
   least = Π_prop (λ j. →_prop (→_prop (Bool-set _ _))) x.least y.least i;
 }
 
-pub linked_known : (ms : List (Option Moment)) (ns : List ℕ) → ∥ Linked ms ns ∥₁ → Linked ms ns
-linked_known ms ns h =
-    ∥∥₁_elim h (Π_prop (λ p. Π_prop (λ b. →_prop (→_prop (follows_prop (table ms) b p (links ns p)))))) (λ l. l)
+pub linked_prop : (ms : List (Option Moment)) (ns : List (Option Slot)) (x y : Linked ms ns) → x ≡ y
+linked_prop ms ns = Π_prop (λ p. Π_prop (λ b. →_prop (→_prop (follows_prop (table ms) b p (links ns p)))))
 
 pub table_bounded : (ms : List (Option Moment)) → length ms ≡ 12352 → Bounded (table ms)
 table_bounded ms e k l = get_or_past ms k None (omega arith)
@@ -75,16 +74,16 @@ pub record Step (t : Table) (b p n x : ℕ) (m : Moment) : Type 0 where
   pub opens : opens t n x (Some m) ≡ true
   pub less : ahead_of t b n < ahead_of t b p
 
-pub step : (t : Table) (f : ℕ → ℕ) (b p x : ℕ) (m : Moment) → Bounded t → Right t f → b < 128 → stands t p b ≡ true → true ≡ leads (f p) (t (f p)) x (Some m) → Step t b p (f p) x m
+pub step : (t : Table) (f : ℕ → ℕ) (b p x : ℕ) (m : Moment) → Bounded t → Right t f → b < 128 → stands t p b ≡ true → leads (f p) (t (f p)) x (Some m) ≡ true → Step t b p (f p) x m
 unfolding ahead_of
 step t f b p x m bd right lb sp h =
-    record { within = l; stands = stands_slot t (f p) b l ∙ was.inside l; opens = opens_slot t (f p) x (Some m) l ∙ sym h; less = count_less _ _ 12352 fewer (f p) l mine gone }
+    record { within = l; stands = stands_slot t (f p) b l ∙ was.inside l; opens = opens_slot t (f p) x (Some m) l ∙ h; less = count_less _ _ 12352 fewer (f p) l mine gone }
   where
     l : f p < 12352
     l =
         ⊎_elim
         (λ k. k)
-        (λ k. absurd (both_ways _ (ap (λ o. leads (f p) o x (Some m)) (bd (f p) k) ∙ leads_empty (f p) x (Some m)) (sym h)))
+        (λ k. absurd (both_ways _ (ap (λ o. leads (f p) o x (Some m)) (bd (f p) k) ∙ leads_empty (f p) x (Some m)) h))
         (cases_lt (f p) 12352)
 
     was : Follows t b p (f p)
@@ -101,9 +100,5 @@ step t f b p x m bd right lb sp h =
     gone : (lies (t (f p)) b && opens t (f p) (f p) (t (f p))) ≡ false
     gone = and_right _ _ (opens_slot t (f p) (f p) (t (f p)) l ∙ leads_never (f p) (t (f p)))
 
-pub bucket_below : (m : Moment) → bucket m < 128
-bucket_below m = lies_below (Some m) (bucket m) (lies_bucket m)
-
--- a number above the slots comes before nothing
-pub past_leads : (ms : List (Option Moment)) (n i : ℕ) (o : Option Moment) → length ms ≡ 12352 → 12352 ≤ n → leads n (table ms n) i o ≡ false
-past_leads ms n i o e l = ap (λ x. leads n x i o) (table_bounded ms e n l) ∙ leads_empty n i o
+pub place_below : (t : Table) (p : ℕ) (m : Moment) → stands t p (bucket m) ≡ true → p < 12480
+place_below t p m h = stands_below t p (bucket m) (bucket_below m) h

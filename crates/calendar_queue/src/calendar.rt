@@ -1,5 +1,6 @@
 //! The calendar: buckets, and a tournament of their first entries.
 ghost use Rattle.calendar_queue.specs.Calendars.{Agree};
+ghost use Rattle.calendar_queue.specs.Bests.{agree_prop};
 
 use crate::crown::Crown;
 use crate::lists::Lists;
@@ -12,5 +13,5 @@ mod slots;
 pub struct CalendarQueue {
     lists: Lists,
     crown: Crown,
-    ghost agree: { ∥ Agree lists.moments lists.next crown.nodes ∥₁ },
+    ghost agree: { Agree lists.moments lists.next crown.nodes } by { agree_prop lists.moments lists.next crown.nodes },
 }

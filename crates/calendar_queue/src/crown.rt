@@ -1,8 +1,9 @@
 //! The tournament of the buckets' first entries.
 ghost use Rattle.std.specs.Prelude.{◌≡◌, length};
 ghost use Rattle.calendar_queue.specs.Crowns.{Matched};
+ghost use Rattle.calendar_queue.specs.Matches.{matched_prop};
 
-use crate::entry::Entry;
+use queues::Entry;
 
 mod play;
 
@@ -11,5 +12,5 @@ mod play;
 pub(crate) struct Crown {
     nodes: [Option<Entry>; 256],
     ghost sized: { length nodes ≡ 256 },
-    ghost matched: { ∥ Matched nodes ∥₁ },
+    ghost matched: { Matched nodes } by { matched_prop nodes },
 }

@@ -1,9 +1,9 @@
 //! An event queue as a calendar: 128 buckets by the remainder of the whole tick.
 #![tactic(auto)]
 
+mod bucket;
 pub mod calendar;
 mod crown;
-mod entry;
 mod lists;
 
 pub use calendar::CalendarQueue;

@@ -1,7 +1,6 @@
 //! A queue as a binary heap, with an index from slots to places: first costs one read, putting and removing at most the heap's depth.
 #![tactic(auto)]
 
-mod order;
 pub mod queue;
 mod tree;
 

@@ -1,11 +1,7 @@
-//! The queue: a heap of slots, with each slot's moment.
-ghost use Rattle.std.specs.Prelude.{◌≡◌, ◌≤◌, length};
-ghost use Rattle.heap_queue.specs.Orders.{stamp_at, comes_before};
-ghost use Rattle.heap_queue.specs.Heaps.{Slots, Places, Within, Found, Ordered};
+//! The queue: a heap of slots with their moments.
+ghost use Rattle.heap_queue.specs.Heaps.{Whole};
 
 use crate::tree::Tree;
-use queues::SLOTS;
-use times::Moment;
 
 mod calls;
 
@@ -13,12 +9,5 @@ mod calls;
 #[derive(Drop)]
 pub struct HeapQueue {
     tree: Tree,
-    moments: [Moment; SLOTS],
-    ghost long: { length moments ≡ 12352 },
-    ghost room: { tree.len ≤ 12352 },
-    ghost slots: { Slots tree },
-    ghost places: { Places tree },
-    ghost within: { Within tree },
-    ghost found: { Found tree },
-    ghost order: { Ordered (comes_before (stamp_at moments)) tree },
+    ghost whole: { Whole tree },
 }

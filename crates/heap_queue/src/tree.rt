@@ -1,19 +1,25 @@
-//! A heap of slots with an index.
-ghost use Rattle.std.specs.Prelude.{◌≡◌, length};
+//! A heap of entries with an index.
+ghost use Rattle.std.specs.Prelude.{◌≡◌, ◌≤◌, length};
 
-use queues::SLOTS;
+use queues::{Entry, SLOTS};
 
 mod gaps;
 mod places;
 
-/// No place: the slot does not stand in the heap.
-pub(crate) const NOWHERE: u16 = 65535;
-
-/// The slots in the heap by place, the least first and each parent before its children; and each slot's place.
+/// The entries in the heap by place, the least first and each parent before its children; and each slot's place, where it has one.
 #[derive(Drop)]
 pub(crate) struct Tree {
-    pub(crate) heap: [u16; SLOTS],
-    pub(crate) place: [u16; SLOTS],
+    heap: [Entry; SLOTS],
+    place: [Option<u16>; SLOTS],
     pub(crate) len: u16,
+    ghost long: { length heap ≡ 12352 },
     ghost size: { length place ≡ 12352 },
+    ghost room: { len ≤ 12352 },
+}
+
+/// A gap in a heap: its place, and the entry in hand that is to fill a place.
+#[derive(Clone, Copy)]
+pub(crate) struct Gap {
+    pub(crate) at: u16,
+    pub(crate) hand: Entry,
 }

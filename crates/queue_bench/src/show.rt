@@ -1,19 +1,31 @@
 //! The run of a show. After all slots have got a moment, each round asks for the first, and puts it again a little later.
 use crate::draw::{Draw, mix, time};
+use crate::run::Run;
 use queues::EventQueue;
 use times::Moment;
 
-/// How many sixteenths of a tick a slot is put later, at most: the more slots, the more, so that time goes on as fast.
-fn spread(slots: u16) -> u32 {
-    16 * u32::from(slots) / 25
+/// What each round of a show does beside: it asks for the first so many times more, and idles so many times.
+#[derive(Clone, Copy, Drop)]
+pub struct Beside {
+    pub asks: u32,
+    pub idles: u32,
+}
+
+impl Run {
+    /// A number of sixteenths of a tick: the more slots, the more, so that time goes on as fast.
+    fn sixteenths(self, draw: &mut Draw) -> u32 {
+        draw.below(16 * u32::from(self.slots) / 25)
+    }
+
+    /// One of the eight slots after the filled ones.
+    fn unfilled(self, turn: u32) -> u16 {
+        self.slots.wrapping_add((turn % 8) as u16)
+    }
 }
 
 /// A moment so many sixteenths of a tick later, on the same side.
 fn later(moment: Moment, sixteenths: u32) -> Moment {
     let d = u32::from(moment.time.denominator());
-    if d == 0 {
-        return moment;
-    }
     let rest = moment.time.numerator() % d;
     let n = 16 * u32::from(moment.time.whole()) + rest * 16 / d;
     Moment {
@@ -22,67 +34,53 @@ fn later(moment: Moment, sixteenths: u32) -> Moment {
     }
 }
 
-/// Empties one of the eight slots after the filled ones, which changes nothing, as they are empty; but the compiler cannot know that.
-fn idle<Q: EventQueue>(queue: &mut Q, slots: u16, turn: u32) -> u64 {
-    let slot = slots.wrapping_add((turn % 8) as u16);
-    u64::from(queue.remove(slot).is_err())
-}
-
-/// Asks for the first so many times, idling before each; and adds up what was told.
-fn asked<Q: EventQueue>(queue: &mut Q, slots: u16, times: u32) -> u64 {
+/// Idles so many times, and adds up what the queue told and what it is asked each time. To idle is to empty a slot that is empty, which changes nothing; but the compiler cannot know that.
+fn idle<Q: EventQueue, F: Fn(&Q) -> u64>(queue: &mut Q, run: Run, times: u32, ask: F) -> u64
+    requires { F.IsAlwaysCallable ask }
+{
     let mut told: u64 = 0;
     for turn in 0..times {
-        told = told.wrapping_add(idle(queue, slots, turn));
-        if let Some(head) = queue.first() {
-            told = told.wrapping_add(u64::from(head.0) + u64::from(head.1.time.numerator()));
-        }
+        let refused = queue.remove(run.unfilled(turn)).is_err();
+        told = told
+            .wrapping_add(u64::from(refused))
+            .wrapping_add(ask(queue));
     }
     told
 }
 
-/// The same without asking.
-fn idled<Q: EventQueue>(queue: &mut Q, slots: u16, times: u32) -> u64 {
-    let mut told: u64 = 0;
-    for turn in 0..times {
-        told = told.wrapping_add(idle(queue, slots, turn));
-    }
-    told
-}
-
-/// Fills the first slots; answers 1 where one was refused, else 0.
-fn fill<Q: EventQueue>(queue: &mut Q, draw: &mut Draw, slots: u16) -> u64 {
-    let mut refused: u64 = 0;
-    for slot in 0..slots {
-        let n = draw.below(spread(slots));
+/// Fills the first slots; answers whether one was refused.
+fn fill<Q: EventQueue>(queue: &mut Q, draw: &mut Draw, run: Run) -> bool {
+    let mut refused = false;
+    for slot in 0..run.slots {
         let moment = Moment {
-            time: time(n, 16),
-            after: draw.below(2) == 1,
+            time: time(run.sixteenths(draw), 16),
+            after: draw.side(),
         };
-        refused |= u64::from(queue.put(slot, moment).is_err());
+        refused |= queue.put(slot, moment).is_err();
     }
     refused
 }
 
-/// The run on a queue. In each round it also asks for the first so many times more, or idles so many times.
-pub fn run<Q: EventQueue>(
-    queue: &mut Q,
-    from: u64,
-    slots: u16,
-    rounds: u32,
-    asks: u32,
-    idles: u32,
-) -> u64 {
-    let mut draw = Draw::new(from);
-    let mut refused = fill(queue, &mut draw, slots);
+/// The run on a queue.
+pub fn run<Q: EventQueue>(queue: &mut Q, run: Run, beside: Beside) -> u64 {
+    let mut draw = run.draw();
+    let mut refused = fill(queue, &mut draw, run);
     let mut sum = 0;
-    for _ in 0..rounds {
-        sum = mix(sum, asked(queue, slots, asks));
-        sum = mix(sum, idled(queue, slots, idles));
-        if let Some(head) = queue.first() {
-            sum = mix(sum, u64::from(head.0));
-            let next = later(head.1, draw.below(spread(slots)).wrapping_add(1));
-            refused |= u64::from(queue.put(head.0, next).is_err());
+    for _ in 0..run.rounds {
+        sum = mix(
+            sum,
+            idle(queue, run, beside.asks, |q| {
+                q.first().map_or(0, |(slot, moment)| {
+                    u64::from(slot) + u64::from(moment.time.numerator())
+                })
+            }),
+        );
+        sum = mix(sum, idle(queue, run, beside.idles, |_| 0));
+        if let Some((slot, moment)) = queue.first() {
+            sum = mix(sum, u64::from(slot));
+            let next = later(moment, run.sixteenths(&mut draw).wrapping_add(1));
+            refused |= queue.put(slot, next).is_err();
         }
     }
-    mix(sum, refused)
+    mix(sum, u64::from(refused))
 }

@@ -10,6 +10,13 @@ ghost use Rattle.queues.specs.Laws.{SoonestFirst, FirstsRight, EmptyRight};
 
 use times::{Moment, Refusal};
 
+pub mod entry;
+pub mod laws;
+pub mod slot;
+
+pub use entry::Entry;
+pub use slot::Slot;
+
 /// How many slots a queue has: those of three times 64 times 64 bits' certificates, and of 64 leg certificates.
 pub const SLOTS: usize = 12352;
 

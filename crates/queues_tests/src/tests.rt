@@ -5,76 +5,65 @@ use std::process::Abort;
 use std::test::Fail;
 use times::{Moment, Refusal, Time};
 
-/// No slot: the queue is empty.
-const NONE: u16 = 65535;
-
-/// A slot, the moment n / d and its side that it gets, or none where d is 0; and the first slot after that.
-type Step = (u16, u32, u16, bool, u16);
+/// A slot; the time n / d and the side that it gets, or none where it is emptied; and the first slot after that, or none.
+type Step = (u16, Option<(u32, u16, bool)>, Option<u16>);
 
 // equal moments in other words, sides, and the lowest slot among equals
 const EQUALS: [Step; 7] = [
-    (9, 2, 3, true, 9),
-    (12351, 4, 6, false, 12351),
-    (7, 2, 3, false, 7),
-    (8, 6, 9, false, 7),
-    (0, 2, 3, true, 7),
-    (7, 2, 3, true, 8),
-    (8, 0, 0, false, 12351),
+    (9, Some((2, 3, true)), Some(9)),
+    (12351, Some((4, 6, false)), Some(12351)),
+    (7, Some((2, 3, false)), Some(7)),
+    (8, Some((6, 9, false)), Some(7)),
+    (0, Some((2, 3, true)), Some(7)),
+    (7, Some((2, 3, true)), Some(8)),
+    (8, None, Some(12351)),
 ];
 
 // replacing by earlier and later moments
 const REPLACED: [Step; 9] = [
-    (0, 100, 1, false, 0),
-    (1, 101, 1, false, 0),
-    (2, 102, 1, false, 0),
-    (3, 103, 1, false, 0),
-    (3, 1, 2, false, 3),
-    (3, 50000, 1, false, 0),
-    (0, 203, 2, false, 1),
-    (1, 101, 1, true, 1),
-    (1, 203, 2, false, 0),
+    (0, Some((100, 1, false)), Some(0)),
+    (1, Some((101, 1, false)), Some(0)),
+    (2, Some((102, 1, false)), Some(0)),
+    (3, Some((103, 1, false)), Some(0)),
+    (3, Some((1, 2, false)), Some(3)),
+    (3, Some((50000, 1, false)), Some(0)),
+    (0, Some((203, 2, false)), Some(1)),
+    (1, Some((101, 1, true)), Some(1)),
+    (1, Some((203, 2, false)), Some(0)),
 ];
 
 // removing an absent slot, the first, the last and all, and refilling
 const REMOVED: [Step; 12] = [
-    (5, 0, 0, false, NONE),
-    (5, 9, 1, false, 5),
-    (6, 8, 1, false, 6),
-    (4, 7, 1, false, 4),
-    (3, 6, 1, false, 3),
-    (4000, 0, 0, false, 3),
-    (3, 0, 0, false, 4),
-    (5, 0, 0, false, 4),
-    (4, 0, 0, false, 6),
-    (6, 0, 0, false, NONE),
-    (6, 0, 0, false, NONE),
-    (12351, 1, 16000, true, 12351),
+    (5, None, None),
+    (5, Some((9, 1, false)), Some(5)),
+    (6, Some((8, 1, false)), Some(6)),
+    (4, Some((7, 1, false)), Some(4)),
+    (3, Some((6, 1, false)), Some(3)),
+    (4000, None, Some(3)),
+    (3, None, Some(4)),
+    (5, None, Some(4)),
+    (4, None, Some(6)),
+    (6, None, None),
+    (6, None, None),
+    (12351, Some((1, 16000, true)), Some(12351)),
 ];
 
-/// The moment of a step, or none.
-fn moment_of(n: u32, d: u16, after: bool) -> Option<Moment> {
-    match Time::new(n, d) {
-        Ok(time) => Some(Moment { time, after }),
-        Err(_) => None,
-    }
-}
-
-/// The first slot, or NONE.
-fn first_slot<Q: EventQueue>(queue: &Q) -> u16 {
-    match queue.first() {
-        Some(head) => head.0,
-        None => NONE,
-    }
+/// The moment n / d on a side of it.
+fn moment_of(n: u32, d: u16, after: bool) -> Result<Moment, Refusal> {
+    let time = Time::new(n, d)?;
+    Ok(Moment { time, after })
 }
 
 /// Takes the steps, and checks the first slot, emptiness and the slot's moment after each.
 fn walk<Q: EventQueue>(rt: &impl Abort, queue: &mut Q, steps: &[Step]) -> Result<(), Fail> {
-    for (slot, n, d, after, first) in steps.iter().copied() {
-        let moment = moment_of(n, d, after);
+    for &(slot, given, first) in steps {
+        let moment = given
+            .map(|(n, d, after)| moment_of(n, d, after))
+            .transpose()?;
         keep(queue, slot, moment)?;
         assert_eq!(rt; queue.moment(slot)?, moment);
-        assert_eq!(rt; first_slot(queue), first);
-        assert_eq!(rt; queue.is_empty(), first == NONE);
+        assert_eq!(rt; queue.first().map(|(slot, _)| slot), first);
+        assert_eq!(rt; queue.is_empty(), first.is_none());
     }
     Ok(())
 }
@@ -87,41 +76,31 @@ fn refused<Q: EventQueue>(rt: &impl Abort, queue: &mut Q) {
         Err(Refusal::SlotRange)
     );
     assert_eq!(rt; queue.moment(12352), Err(Refusal::SlotRange));
-    assert_eq!(rt; Refusal::SlotRange.number(), 7);
+    assert_eq!(rt; u8::from(Refusal::SlotRange), 7);
 }
 
 /// Fills every slot, two to a moment.
 fn fill<Q: EventQueue>(queue: &mut Q) -> Result<(), Fail> {
     for slot in 0..12352u16 {
         let turned = u32::from(slot) * 7919 % 12352;
-        keep(queue, slot, moment_of(turned / 2, 1, false))?;
+        keep(queue, slot, Some(moment_of(turned / 2, 1, false)?))?;
     }
     Ok(())
 }
 
 /// Empties a full queue: the slots come by moment, and by slot among equals.
 fn empty<Q: EventQueue>(rt: &impl Abort, queue: &mut Q) -> Result<(), Fail> {
-    let mut last = (0, None);
+    let mut last = None;
     for _ in 0..12352u16 {
-        let slot = first_slot(queue);
-        let moment = queue.moment(slot)?;
-        assert!(rt; follows(last.0, last.1, slot, moment));
-        last = (slot, moment);
+        let (slot, moment) = queue.first().expect(rt, "a slot is left");
+        assert_eq!(rt; queue.moment(slot)?, Some(moment));
+        let next = Some((moment, slot));
+        assert!(rt; last < next);
+        last = next;
         queue.remove(slot)?;
     }
     assert!(rt; queue.is_empty());
     Ok(())
-}
-
-/// Whether slot b at moment n may come after slot a at moment m.
-fn follows(a: u16, m: Option<Moment>, b: u16, n: Option<Moment>) -> bool {
-    let Some(y) = n else {
-        return false;
-    };
-    let Some(x) = m else {
-        return true;
-    };
-    x.before(y) || !y.before(x) && a < b
 }
 
 #[test]
@@ -154,9 +133,9 @@ fn heap_full(rt: HostRuntime) -> Result<(), Fail> {
         &rt,
         &mut queue,
         &[
-            (64, 0, 1, true, 0),
-            (0, 50000, 1, true, 9039),
-            (9039, 0, 0, false, 64),
+            (64, Some((0, 1, true)), Some(0)),
+            (0, Some((50000, 1, true)), Some(9039)),
+            (9039, None, Some(64)),
         ],
     )
 }

@@ -4,7 +4,7 @@ ghost use Rattle.calendar_queue.specs.Bests.{kept_within, stored_usual};
 ghost use Rattle.calendar_queue.specs.Links.{table};
 
 use crate::calendar::CalendarQueue;
-use queues::{EventQueue, SLOTS};
+use queues::{Entry, EventQueue, Slot};
 use times::{Moment, Refusal};
 
 impl EventQueue for CalendarQueue {
@@ -15,39 +15,27 @@ impl EventQueue for CalendarQueue {
     ghost usual = { λ q k m h. stored_usual (table q.lists.moments k) m h };
 
     fn put(&mut self, slot: u16, moment: Moment) -> Result<(), Refusal> {
-        if slot as usize >= SLOTS {
-            return Err(Refusal::SlotRange);
-        }
-        self.replace(slot, moment);
+        let slot = Slot::new(slot)?;
+        self.replace(Entry { moment, slot });
         Ok(())
     }
 
     fn remove(&mut self, slot: u16) -> Result<(), Refusal> {
-        if slot as usize >= SLOTS {
-            return Err(Refusal::SlotRange);
-        }
+        let slot = Slot::new(slot)?;
         self.empty(slot);
         Ok(())
     }
 
     fn moment(&self, slot: u16) -> Result<Option<Moment>, Refusal> {
-        if slot as usize >= SLOTS {
-            return Err(Refusal::SlotRange);
-        }
+        let slot = Slot::new(slot)?;
         Ok(self.lists.moment(slot))
     }
 
     fn first(&self) -> Option<(u16, Moment)> {
-        match self.best() {
-            Some(best) => Some((best.slot, best.moment)),
-            None => None,
-        }
+        self.best().map(|best| (best.slot.number, best.moment))
     }
 
     fn is_empty(&self) -> bool {
-        match self.best() {
-            Some(_) => false,
-            None => true,
-        }
+        self.best().is_none()
     }
 }

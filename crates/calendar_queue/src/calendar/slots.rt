@@ -8,19 +8,18 @@ ghost use Rattle.calendar_queue.specs.Heads.{head_of};
 ghost use Rattle.calendar_queue.specs.Crowns.{node};
 ghost use Rattle.calendar_queue.specs.Held.{holds_of};
 
+use crate::bucket::Bucket;
 use crate::calendar::CalendarQueue;
 use crate::crown::Crown;
-use crate::entry::{Entry, bucket_of};
 use crate::lists::Lists;
-use times::Moment;
+use queues::{Entry, Slot};
 
 /// Enters a bucket's first entry into the tournament.
-fn refresh(lists: &Lists, crown: &mut Crown, number: u16)
-    requires { number < 128 }
-    ensures { (b : ℕ) → b < 128 → node crown.new.nodes (128 + b) ≡ (if nat_eq b number then head_of lists.now.moments lists.now.next number else node crown.old.nodes (128 + b)) }
+fn refresh(lists: &Lists, crown: &mut Crown, bucket: Bucket)
+    ensures { (b : ℕ) → b < 128 → node crown.new.nodes (128 + b) ≡ (if nat_eq b bucket.number then head_of lists.now.moments lists.now.next bucket.number else node crown.old.nodes (128 + b)) }
 {
-    let found = lists.head(number);
-    crown.set(number, found);
+    let found = lists.head(bucket);
+    crown.set(bucket, found);
 }
 
 impl CalendarQueue {
@@ -35,34 +34,31 @@ impl CalendarQueue {
     }
 
     /// Empties a slot.
-    pub(super) fn empty(&mut self, slot: u16)
-        requires { slot < 12352 }
-        ensures moments { self.new.lists.moments ≡ slice_set self.old.lists.moments slot None }
-        ensures meaning { holds_of self.new ≡ changed (holds_of self.old) slot None }
+    pub(super) fn empty(&mut self, slot: Slot)
+        ensures moments { self.new.lists.moments ≡ slice_set self.old.lists.moments slot.number None }
+        ensures meaning { holds_of self.new ≡ changed (holds_of self.old) slot.number None }
     {
         if let Some(moment) = self.lists.moment(slot) {
-            self.lists.unlink(slot, moment);
-            refresh(&self.lists, &mut self.crown, bucket_of(moment));
+            self.lists.unlink(Entry { moment, slot });
+            refresh(&self.lists, &mut self.crown, Bucket::of(moment));
         }
     }
 
     /// Fills an empty slot.
-    fn fill(&mut self, slot: u16, moment: Moment)
-        requires inside { slot < 12352 }
-        requires empty { table self.old.lists.moments slot ≡ None }
-        ensures { self.new.lists.moments ≡ slice_set self.old.lists.moments slot (Some moment) }
+    fn fill(&mut self, entry: Entry)
+        requires { table self.old.lists.moments entry.slot.number ≡ None }
+        ensures { self.new.lists.moments ≡ slice_set self.old.lists.moments entry.slot.number (Some entry.moment) }
     {
-        self.lists.link(slot, moment);
-        refresh(&self.lists, &mut self.crown, bucket_of(moment));
+        self.lists.link(entry);
+        refresh(&self.lists, &mut self.crown, Bucket::of(entry.moment));
     }
 
     /// Sets a slot's moment, in the place of an old one.
-    pub(super) fn replace(&mut self, slot: u16, moment: Moment)
-        requires { slot < 12352 }
-        ensures { holds_of self.new ≡ changed (holds_of self.old) slot (Some (moment_of moment)) }
+    pub(super) fn replace(&mut self, entry: Entry)
+        ensures { holds_of self.new ≡ changed (holds_of self.old) entry.slot.number (Some (moment_of entry.moment)) }
     {
-        self.empty(slot);
-        self.fill(slot, moment);
+        self.empty(entry.slot);
+        self.fill(entry);
     }
 
     /// The entry that comes before all others, or none.

@@ -2,19 +2,19 @@
 ghost use Rattle.std.specs.Prelude.{◌≡◌, ℕ, ◌+◌, ◌/◌, ◌<◌, ◌≤◌, length, if◌then◌else◌, Some, None, nat_eq};
 ghost use Rattle.calendar_queue.specs.Crowns.{better as winner, node, Matched, MatchedBut};
 
+use crate::bucket::Bucket;
 use crate::crown::Crown;
-use crate::entry::Entry;
+use queues::Entry;
 
 /// The better of two entries, of which either may be missing.
+#[tactic(auto, unfolding(crate::specs::Crowns::better, queues::specs::Entries::ahead))]
 fn better(left: Option<Entry>, right: Option<Entry>) -> Option<Entry>
     ensures { result ≡ winner left right }
 {
-    match left {
-        None => right,
-        Some(l) => match right {
-            None => left,
-            Some(r) => { if r.before(l) { right } else { left } }
-        },
+    match (left, right) {
+        (Some(l), Some(r)) => Some(l.min(r)),
+        (None, r) => r,
+        (l, None) => l,
     }
 }
 
@@ -26,6 +26,7 @@ fn replay(nodes: &mut [Option<Entry>], leaf: usize)
     ensures leaves { (k : ℕ) → 128 ≤ k → node nodes.new k ≡ node nodes.old k }
     ensures matched { MatchedBut nodes.old (leaf / 2) → Matched nodes.new }
 {
+    // No plainer as an iterator: each turn writes the table that the next one reads.
     let mut at = leaf;
     while at > 1 {
         at /= 2;
@@ -43,11 +44,10 @@ impl Crown {
     }
 
     /// Sets a bucket's first entry.
-    pub(crate) fn set(&mut self, number: u16, found: Option<Entry>)
-        requires { number < 128 }
-        ensures { (b : ℕ) → b < 128 → node self.new.nodes (128 + b) ≡ (if nat_eq b number then found else node self.old.nodes (128 + b)) }
+    pub(crate) fn set(&mut self, bucket: Bucket, found: Option<Entry>)
+        ensures { (b : ℕ) → b < 128 → node self.new.nodes (128 + b) ≡ (if nat_eq b bucket.number then found else node self.old.nodes (128 + b)) }
     {
-        let leaf = 128 + usize::from(number);
+        let leaf = 128 + usize::from(bucket.number);
         self.nodes[leaf] = found;
         replay(&mut self.nodes, leaf);
     }

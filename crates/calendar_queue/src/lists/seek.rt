@@ -1,45 +1,61 @@
 //! Finding the place of an entry in its bucket.
-ghost use Rattle.std.specs.Prelude.{◌≡◌, ◌<◌, true, false, Some, None};
-ghost use Rattle.calendar_queue.specs.Entries.{leads, bucket};
-ghost use Rattle.calendar_queue.specs.Links.{table, links, stands, opens};
+ghost use Rattle.std.specs.Prelude.{◌≡◌, ◌<◌};
+ghost use Rattle.calendar_queue.specs.Links.{table, Sought};
+ghost use Rattle.calendar_queue.specs.Heads.{entry_after, head_of, Steps};
 
-use crate::entry::{Entry, bucket_of};
-use crate::lists::{Lists, STARTS};
+use crate::bucket::Bucket;
+use crate::lists::Lists;
+use queues::{Entry, Slot};
 use times::Moment;
 
 impl Lists {
     /// The moment of a slot, or none.
-    pub(crate) fn moment(&self, slot: u16) -> Option<Moment>
-        requires { slot < 12352 }
-        ensures { result ≡ table self.now.moments slot }
+    pub(crate) fn moment(&self, slot: Slot) -> Option<Moment>
+        ensures { result ≡ table self.now.moments slot.number }
     {
-        self.moments[usize::from(slot)]
+        self.moments[slot.place()]
     }
 
-    /// Whether the slot that a place names comes before an entry.
-    fn goes_on(&self, place: u16, wanted: Entry) -> bool
+    /// The entry that a place names, or none.
+    #[tactic(auto, unfolding(crate::specs::Heads::entry_at))]
+    fn after(&self, place: usize) -> Option<Entry>
         requires { place < 12480 }
-        ensures { result ≡ leads (links self.now.next place) (table self.now.moments (links self.now.next place)) wanted.slot (Some wanted.moment) }
+        ensures { result ≡ entry_after self.now.moments self.now.next place }
     {
-        let slot = self.next[usize::from(place)];
-        if slot >= STARTS {
-            return false;
-        }
-        match self.moment(slot) {
-            Some(moment) => Entry { slot, moment }.before(wanted),
-            None => false,
+        let slot = self.next[place]?;
+        let moment = self.moment(slot)?;
+        Some(Entry { moment, slot })
+    }
+
+    /// The first entry of a bucket, or none.
+    pub(crate) fn head(&self, bucket: Bucket) -> Option<Entry>
+        ensures { result ≡ head_of self.now.moments self.now.next bucket.number }
+    {
+        self.after(bucket.start())
+    }
+
+    /// The slot that a place names, where it comes before an entry.
+    #[tactic(auto, using(queues::specs::EntryOrder::less, crate::specs::Changes::some_leads, crate::specs::Changes::entry_held))]
+    fn step(&self, place: usize, wanted: Entry) -> Option<Slot>
+        requires { place < 12480 }
+        ensures { Steps self.now.moments self.now.next place wanted result }
+    {
+        let entry = self.after(place)?;
+        if entry < wanted {
+            Some(entry.slot)
+        } else {
+            None
         }
     }
 
     /// The last place of an entry's bucket that comes before the entry.
-    pub(super) fn seek(&self, wanted: Entry) -> u16
-        ensures stands { stands (table self.now.moments) result (bucket wanted.moment) ≡ true }
-        ensures opens { opens (table self.now.moments) result wanted.slot (Some wanted.moment) ≡ true }
-        ensures last { leads (links self.now.next result) (table self.now.moments (links self.now.next result)) wanted.slot (Some wanted.moment) ≡ false }
+    pub(super) fn seek(&self, wanted: Entry) -> usize
+        ensures { Sought self.now.moments self.now.next wanted result }
     {
-        let mut place = STARTS + bucket_of(wanted.moment);
-        while self.goes_on(place, wanted) {
-            place = self.next[usize::from(place)];
+        // No plainer as an iterator: the place before the first slot is a bucket's start and no slot.
+        let mut place = Bucket::of(wanted.moment).start();
+        while let Some(slot) = self.step(place, wanted) {
+            place = slot.place();
         }
         place
     }

@@ -1,121 +1,114 @@
-//! Filling a gap in the heap: slots move down or up until the slot in hand fits.
-ghost use Rattle.std.specs.Prelude.{◌≡◌, ◌+◌, ◌*◌, ◌<◌, false, MatchOption};
-ghost use Rattle.heap_queue.specs.Orders.{stamp_at, comes_before};
-ghost use Rattle.heap_queue.specs.Heaps.{absent, Indexed, Ordered, IndexedBut, OrderedBut, Below, Above, ParentAfter, LeastChild, ChildBefore, Filled, SamePlaced, SamePlacedBut};
+//! Filling a gap in the heap: entries move down or up until the one in hand fits.
+ghost use Rattle.std.specs.Prelude.{◌≡◌, ◌+◌, ◌*◌, ◌<◌, MatchOption};
+ghost use Rattle.heap_queue.specs.Heaps.{entry_of, place_of, Gapped, Below, Above, ParentAfter, LeastChild, ChildBefore, Filled, Went, Settled};
 
-use crate::order::before;
-use crate::tree::Tree;
-use queues::SLOTS;
-use times::Moment;
+use crate::tree::{Gap, Tree};
+use queues::{Entry, Slot};
 
 impl Tree {
-    /// Puts a slot at a place, in the heap and in the index.
-    fn fill(&mut self, at: u16, slot: u16)
-        requires { (at < 12352) × (slot < 12352) }
-        ensures { Filled self.old self.new at slot }
+    /// The entry at a place.
+    pub(crate) fn entry(&self, at: u16) -> Entry
+        requires { at < 12352 }
+        ensures { result ≡ entry_of self.now at }
     {
-        self.heap[at as usize] = slot;
-        self.place[slot as usize] = at;
+        self.heap[usize::from(at)]
     }
 
-    /// The place above the gap, where the slot there comes after the slot in hand.
-    fn parent_after(&self, moments: &[Moment; SLOTS], gap: u16, hand: u16) -> Option<u16>
-        requires { IndexedBut self.now gap hand }
-        ensures { MatchOption result (Below (comes_before (stamp_at moments.now)) self.now gap hand) (ParentAfter (comes_before (stamp_at moments.now)) self.now gap hand) }
+    /// The place of a slot, where it has one.
+    pub(crate) fn place_of(&self, slot: Slot) -> Option<u16>
+        ensures { result ≡ place_of self.now slot.number }
     {
-        if gap == 0 {
+        self.place[slot.place()]
+    }
+
+    /// Puts an entry at a place, in the heap and in the index.
+    fn fill(&mut self, at: u16, entry: Entry)
+        requires { at < 12352 }
+        ensures { Filled self.old self.new at entry }
+    {
+        self.heap[usize::from(at)] = entry;
+        self.place[entry.slot.place()] = Some(at);
+    }
+
+    /// The place above the gap, where the entry there comes after the one in hand.
+    #[tactic(auto, using(queues::specs::EntryOrder::less))]
+    fn parent_after(&self, gap: Gap) -> Option<u16>
+        requires { Gapped self.now gap }
+        ensures { MatchOption result (Below self.now gap) (ParentAfter self.now gap) }
+    {
+        if gap.at == 0 {
             return None;
         }
-        let up = (gap - 1) / 2;
-        if before(moments, hand, self.heap[up as usize]) {
-            Some(up)
-        } else {
-            None
-        }
+        let up = (gap.at - 1) / 2;
+        (gap.hand < self.entry(up)).then_some(up)
     }
 
     /// Of the gap's children, of which there is one, the place of that which does not come after the other.
-    fn least_child(&self, moments: &[Moment; SLOTS], gap: u16, hand: u16) -> u16
-        requires { (IndexedBut self.now gap hand) × (2 * gap + 1 < self.now.len) }
-        ensures { LeastChild (comes_before (stamp_at moments.now)) self.now gap result }
+    #[tactic(auto, using(queues::specs::EntryOrder::less, crate::specs::Gaps::right_least))]
+    fn least_child(&self, gap: u16) -> u16
+        requires { 2 * gap + 1 < self.now.len }
+        ensures { LeastChild self.now gap result }
     {
         let left = 2 * gap + 1;
         let right = left + 1;
-        if right >= self.len {
-            return left;
-        }
-        if before(moments, self.heap[right as usize], self.heap[left as usize]) {
+        if right < self.len && self.entry(right) < self.entry(left) {
             right
         } else {
             left
         }
     }
 
-    /// The place of the gap's least child, where it comes before the slot in hand.
-    fn child_before(&self, moments: &[Moment; SLOTS], gap: u16, hand: u16) -> Option<u16>
-        requires { IndexedBut self.now gap hand }
-        ensures { MatchOption result (Above (comes_before (stamp_at moments.now)) self.now gap hand) (ChildBefore (comes_before (stamp_at moments.now)) self.now gap hand) }
+    /// The place of the gap's least child, where it comes before the entry in hand.
+    #[tactic(auto, using(queues::specs::EntryOrder::less, crate::specs::Gaps::above_least))]
+    fn child_before(&self, gap: Gap) -> Option<u16>
+        requires { Gapped self.now gap }
+        ensures { MatchOption result (Above self.now gap) (ChildBefore self.now gap) }
     {
-        if 2 * gap + 1 >= self.len {
+        if 2 * gap.at + 1 >= self.len {
             return None;
         }
-        let child = self.least_child(moments, gap, hand);
-        if before(moments, self.heap[child as usize], hand) {
-            Some(child)
-        } else {
-            None
-        }
+        let child = self.least_child(gap.at);
+        (self.entry(child) < gap.hand).then_some(child)
     }
 
-    /// Moves parents down into the gap while they come after the slot in hand, and answers where the gap is then.
-    fn rise(&mut self, moments: &[Moment; SLOTS], from: u16, hand: u16) -> u16
-        requires index { IndexedBut self.old from hand }
-        requires order { OrderedBut (comes_before (stamp_at moments.now)) self.old from }
-        ensures index { IndexedBut self.new result hand }
-        ensures order { OrderedBut (comes_before (stamp_at moments.now)) self.new result }
-        ensures below { Below (comes_before (stamp_at moments.now)) self.new result hand }
-        ensures placed { SamePlaced self.old self.new }
+    /// Moves parents down into the gap while they come after the entry in hand, and answers where the gap is then.
+    fn rise(&mut self, from: Gap) -> Gap
+        requires { Gapped self.old from }
+        ensures went { Went self.old self.new from result }
+        ensures below { Below self.new result }
     {
+        // No plainer as one loop with `sink` over the place to go to: each keeps a fact of its own on the way.
         let mut gap = from;
-        while let Some(up) = self.parent_after(moments, gap, hand) {
-            let moved = self.heap[up as usize];
-            self.fill(gap, moved);
-            gap = up;
+        while let Some(up) = self.parent_after(gap) {
+            self.fill(gap.at, self.entry(up));
+            gap.at = up;
         }
         gap
     }
 
-    /// Moves the least children up into the gap while they come before the slot in hand, and answers where the gap is then.
-    fn sink(&mut self, moments: &[Moment; SLOTS], from: u16, hand: u16) -> u16
-        requires index { IndexedBut self.old from hand }
-        requires order { OrderedBut (comes_before (stamp_at moments.now)) self.old from }
-        requires below { Below (comes_before (stamp_at moments.now)) self.old from hand }
-        ensures index { IndexedBut self.new result hand }
-        ensures order { OrderedBut (comes_before (stamp_at moments.now)) self.new result }
-        ensures below { Below (comes_before (stamp_at moments.now)) self.new result hand }
-        ensures above { Above (comes_before (stamp_at moments.now)) self.new result hand }
-        ensures placed { SamePlaced self.old self.new }
+    /// Moves the least children up into the gap while they come before the entry in hand, and answers where the gap is then.
+    fn sink(&mut self, from: Gap) -> Gap
+        requires gapped { Gapped self.old from }
+        requires below { Below self.old from }
+        ensures went { Went self.old self.new from result }
+        ensures below { Below self.new result }
+        ensures above { Above self.new result }
     {
         let mut gap = from;
-        while let Some(child) = self.child_before(moments, gap, hand) {
-            let moved = self.heap[child as usize];
-            self.fill(gap, moved);
-            gap = child;
+        while let Some(child) = self.child_before(gap) {
+            self.fill(gap.at, self.entry(child));
+            gap.at = child;
         }
         gap
     }
 
-    /// Lets the slot in hand stand where it belongs, and moves others for it.
-    pub(crate) fn settle(&mut self, moments: &[Moment; SLOTS], from: u16, hand: u16)
-        requires index { IndexedBut self.old from hand }
-        requires order { OrderedBut (comes_before (stamp_at moments.now)) self.old from }
-        ensures index { Indexed self.new }
-        ensures order { Ordered (comes_before (stamp_at moments.now)) self.new }
-        ensures there { absent self.new hand ≡ false }
-        ensures placed { SamePlacedBut self.old self.new hand }
+    /// Lets the entry in hand stand where it belongs, and moves others for it.
+    pub(crate) fn settle(&mut self, gap: Gap)
+        requires { Gapped self.old gap }
+        ensures { Settled self.old self.new gap.hand }
     {
-        let risen = self.rise(moments, from, hand);
-        let gap = self.sink(moments, risen, hand);
-        self.fill(gap, hand);
+        let risen = self.rise(gap);
+        let sunk = self.sink(risen);
+        self.fill(sunk.at, sunk.hand);
     }
 }

@@ -9,17 +9,18 @@ loop-at-preserved c =
     let j = c.loop-at.at / 2 in
     let inv = c.loop-at.invariant in
     let p : 0 < c.loop-at.at / 2 = omega arith in
-    let l : c.loop-at.at / 2 < 128 = omega arith in (
-      p,
-      omega arith,
-      length-set c.loop-at.nodes _ _ ∙ inv.2,
-      (λ k h. get_or-set_other c.loop-at.nodes (c.loop-at.at / 2) k _ None (λ e. omega arith) ∙ inv.3 k h),
-      λ m. replayed c.loop-at.nodes (c.loop-at.at / 2) _ _ _ inv.2 p l c.index-nodes-at.is c.index-nodes-at-in-loop-at.is c.better-best.ensures (inv.4 m),
-    )
+    let l : c.loop-at.at / 2 < 128 = omega arith in
+    record {
+      low = p;
+      high = omega arith;
+      sized = length-set c.loop-at.nodes _ _ ∙ inv.sized;
+      leaves = λ k h. get_or-set_other c.loop-at.nodes (c.loop-at.at / 2) k _ None (λ e. omega arith) ∙ inv.leaves k h;
+      matched = λ m. replayed c.loop-at.nodes (c.loop-at.at / 2) _ _ _ inv.sized p l c.index-nodes-at.is c.index-nodes-at-in-loop-at.is c.better-best.ensures (inv.matched m);
+    }
 
 pub returns : goal.returns
 returns c =
     record {
-      leaves = c.loop-at.invariant.3;
-      matched = λ m. all_matched c.loop-at.nodes (c.loop-at.at / 2) (omega arith) (c.loop-at.invariant.4 m);
+      leaves = c.loop-at.invariant.leaves;
+      matched = λ m. all_matched c.loop-at.nodes (c.loop-at.at / 2) (omega arith) (c.loop-at.invariant.matched m);
     }

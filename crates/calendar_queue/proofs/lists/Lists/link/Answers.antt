@@ -1,47 +1,21 @@
-use Rattle.std.proofs.Common.{◌≡◌, ℕ, ◌<◌, List, set, Some, Option, ap, ◌∙◌, arith}
-use Rattle.std.proofs.lemmas.List.{length-set}
-use Rattle.times.specs.declared.moment.Moment.{Moment}
-use Rattle.calendar_queue.specs.Entries.{bucket}
-use Rattle.calendar_queue.specs.Links.{table, Linked}
-use Rattle.calendar_queue.specs.Heads.{head_of}
-use Rattle.calendar_queue.specs.Walks.{linked_known, bucket_below}
-use Rattle.calendar_queue.specs.Places.{stands_below}
-use Rattle.calendar_queue.specs.Changes.{link_right, link_heads, link_writes}
+use Rattle.std.proofs.Common.{None, sym, ◌∙◌, arith}
+use Rattle.std.proofs.lemmas.List.{length-set, get_or_read}
+use Rattle.calendar_queue.specs.Changes.{link_kept}
 use Rattle.calendar_queue.proofs.lists.Lists.link.Goals as goal
 
-pub bounds-self-from : goal.bounds-self-from
-bounds-self-from c =
-    let l : c.seek-place.result < 12480 = stands_below (table c.args.self.now.moments) c.seek-place.result (bucket c.args.moment) (bucket_below c.args.moment) c.seek-place.ensures.stands in
-    omega arith
+pub invariant_of-self-clause-placed : goal.invariant_of-self-clause-placed
+invariant_of-self-clause-placed c = let s = c.args.self.now in length-set _ _ _ ∙ length-set s.next _ _ ∙ s.placed
 
-pub bounds-self-from-3 : goal.bounds-self-from-3
-bounds-self-from-3 c =
-    let l : c.seek-place.result < 12480 = stands_below (table c.args.self.now.moments) c.seek-place.result (bucket c.args.moment) (bucket_below c.args.moment) c.seek-place.ensures.stands in
-    omega arith
-
-pub invariant_of-self : goal.invariant_of-self
-invariant_of-self c =
+pub invariant_of-self-clause-linked : goal.invariant_of-self-clause-linked
+invariant_of-self-clause-linked c =
     let s = c.args.self.now in
-    let m = c.args.moment in
     let e = c.seek-place.ensures in
-    let w = link_writes (λ (us : List (Option Moment)) (vs : List ℕ). Linked us vs) s.moments s.next (Some m) c.args.slot c.seek-place.result c.from.result c.from-2.result c.from-3.result c.from-4.result
-    c.from.ensures c.from-2.ensures c.from-3.ensures c.from-4.ensures
-    (link_right s.moments s.next c.args.slot c.seek-place.result m s.held s.placed (linked_known s.moments s.next s.linked) c.requires.inside e.stands e.opens e.last c.requires.empty) in
-    record {
-      held = length-set s.moments _ _ ∙ s.held;
-      placed = length-set _ _ _ ∙ length-set s.next _ _ ∙ s.placed;
-      linked = ∣ w ∣₁;
-    }
+    let r = c.index-self-place in
+    (link_kept s.moments s.next c.args.entry c.seek-place.result _ s.held s.placed s.linked e c.requires (sym r.is ∙ get_or_read s.next c.seek-place.result _ (omega (arith, e.below, s.placed)) r.is None) c.place-slot.result c.place-slot.ensures.value).0
 
-pub returns : goal.returns
-returns c =
+pub returns-clause-others : goal.returns-clause-others
+returns-clause-others c =
     let s = c.args.self.now in
-    let m = c.args.moment in
     let e = c.seek-place.ensures in
-    record {
-      moments = ap (λ (k : ℕ). set s.moments k (Some m)) c.from-4.ensures;
-      others = λ b lb ne.
-          link_writes (λ (us : List (Option Moment)) (vs : List ℕ). head_of us vs b ≡ head_of s.moments s.next b) s.moments s.next (Some m) c.args.slot c.seek-place.result c.from.result c.from-2.result c.from-3.result c.from-4.result
-          c.from.ensures c.from-2.ensures c.from-3.ensures c.from-4.ensures
-          (link_heads s.moments s.next c.args.slot c.seek-place.result m s.held s.placed (linked_known s.moments s.next s.linked) c.requires.inside e.stands e.opens e.last c.requires.empty b lb ne);
-    }
+    let r = c.index-self-place in
+    (link_kept s.moments s.next c.args.entry c.seek-place.result _ s.held s.placed s.linked e c.requires (sym r.is ∙ get_or_read s.next c.seek-place.result _ (omega (arith, e.below, s.placed)) r.is None) c.place-slot.result c.place-slot.ensures.value).1

@@ -1,48 +1,42 @@
-use Rattle.std.proofs.Common.{◌≡◌, ℕ, ◌+◌, ◌<◌, true, sym, ◌∙◌, subst, arith}
+use Rattle.std.proofs.Common.{◌≡◌, ℕ, ◌+◌, true, sym, ap, ◌∙◌, subst, rules, arith}
 use Rattle.calendar_queue.specs.Entries.{bucket}
 use Rattle.calendar_queue.specs.Links.{table, links, stands}
-use Rattle.calendar_queue.specs.Order.{bucket_is}
-use Rattle.calendar_queue.specs.Places.{begins, opens_start, stands_below}
-use Rattle.calendar_queue.specs.Walks.{bucket_below, linked_known, table_bounded, Step, step}
+use Rattle.calendar_queue.specs.Order.{bucket_below}
+use Rattle.calendar_queue.specs.Places.{begins, opens_start}
+use Rattle.calendar_queue.specs.Walks.{place_below, table_bounded, Step, step}
 use Rattle.calendar_queue.proofs.lists.Lists.seek.Goals as goal
 
-pub overflow_add-place : goal.overflow_add-place
-overflow_add-place c = let l = bucket_below c.args.wanted.moment in omega (arith, c.bucket_of-place.ensures ∙ bucket_is c.args.wanted.moment)
+pub loop-slot-init : goal.loop-slot-init
+loop-slot-init c =
+    let t = table c.args.self.now.moments in
+    let e = c.start-place.ensures ∙ ap (λ (k : ℕ). 12352 + k) c.of.ensures in
+    record {
+      here = subst (λ (k : ℕ). stands t k (bucket c.args.wanted.moment) ≡ true) (sym e) (begins t (bucket c.args.wanted.moment));
+      before = opens_start t _ _ _ (omega arith);
+    }
 
-pub loop-wanted-init : goal.loop-wanted-init
-loop-wanted-init c =
-    let t = table c.args.self.now.moments in (
-      subst (λ (k : ℕ). stands t (12352 + k) (bucket c.args.wanted.moment) ≡ true) (sym (c.bucket_of-place.ensures ∙ bucket_is c.args.wanted.moment)) (begins t (bucket c.args.wanted.moment)),
-      opens_start t _ _ _ (omega arith),
-    )
+pub step-requires : goal.step-requires
+step-requires c =
+    place_below (table c.args.self.now.moments) c.loop-slot.place c.args.wanted.moment c.loop-slot.invariant.here
 
-pub goes_on-requires : goal.goes_on-requires
-goes_on-requires c =
-    stands_below (table c.args.self.now.moments) c.loop-wanted.place (bucket c.args.wanted.moment) (bucket_below c.args.wanted.moment) c.loop-wanted.invariant.0
-
-pub offset_bounds-self-from : goal.offset_bounds-self-from
-offset_bounds-self-from c =
-    let l : c.loop-wanted.place < 12480 = stands_below (table c.args.self.now.moments) c.loop-wanted.place (bucket c.args.wanted.moment) (bucket_below c.args.wanted.moment) c.loop-wanted.invariant.0 in
-    omega arith
-
-pub bounds-self-from : goal.bounds-self-from
-bounds-self-from c =
-    let l : c.loop-wanted.place < 12480 = stands_below (table c.args.self.now.moments) c.loop-wanted.place (bucket c.args.wanted.moment) (bucket_below c.args.wanted.moment) c.loop-wanted.invariant.0 in
-    omega arith
+pub returns : goal.returns
+returns c =
+    let h = c.loop-slot.invariant in
+    record { below = place_below (table c.args.self.now.moments) c.loop-slot.place c.args.wanted.moment h.here; here = h.here; before = h.before; last = search rules }
 
 -- the turn's step
-gone_on : (c : goal.After-place-1) → Step (table c.args.self.now.moments) (bucket c.args.wanted.moment) c.loop-wanted.place (links c.args.self.now.next c.from.result) c.args.wanted.slot c.args.wanted.moment
+gone_on : (c : goal.After-place-place) → Step (table c.args.self.now.moments) (bucket c.args.wanted.moment) c.loop-slot.place c.place-place.result c.args.wanted.slot.number c.args.wanted.moment
 gone_on c =
     let s = c.args.self.now in
     let t = table s.moments in
-    let m = c.args.wanted.moment in
+    let w = c.args.wanted in
     subst
-    (λ (k : ℕ). Step t (bucket m) c.loop-wanted.place (links s.next k) c.args.wanted.slot m)
-    (sym c.from.ensures)
-    (step t (links s.next) (bucket m) c.loop-wanted.place c.args.wanted.slot m (table_bounded s.moments s.held) (linked_known s.moments s.next s.linked) (bucket_below m) c.loop-wanted.invariant.0 c.loop-wanted-test.ensures)
+    (λ (k : ℕ). Step t (bucket w.moment) c.loop-slot.place k w.slot.number w.moment)
+    (sym (c.place-place.ensures.value ∙ sym c.in-Some.ensures.0))
+    (step t (links s.next) (bucket w.moment) c.loop-slot.place w.slot.number w.moment (table_bounded s.moments s.held) s.linked (bucket_below w.moment) c.loop-slot.invariant.here c.in-Some.ensures.1)
 
-pub loop-wanted-smaller : goal.loop-wanted-smaller
-loop-wanted-smaller c = (gone_on c).less
+pub loop-slot-smaller : goal.loop-slot-smaller
+loop-slot-smaller c = (gone_on c).less
 
-pub loop-wanted-preserved : goal.loop-wanted-preserved
-loop-wanted-preserved c = ((gone_on c).stands, (gone_on c).opens)
+pub loop-slot-preserved : goal.loop-slot-preserved
+loop-slot-preserved c = record { here = (gone_on c).stands; before = (gone_on c).opens }

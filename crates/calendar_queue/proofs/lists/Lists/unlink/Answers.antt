@@ -1,42 +1,22 @@
-use Rattle.std.proofs.Common.{◌≡◌, ℕ, ◌<◌, List, set, None, Option, ap, ◌∙◌, arith}
-use Rattle.std.proofs.lemmas.List.{length-set}
-use Rattle.times.specs.declared.moment.Moment.{Moment}
-use Rattle.calendar_queue.specs.Entries.{bucket}
-use Rattle.calendar_queue.specs.Links.{table, Linked}
-use Rattle.calendar_queue.specs.Heads.{head_of}
-use Rattle.calendar_queue.specs.Walks.{linked_known, bucket_below}
-use Rattle.calendar_queue.specs.Places.{stands_below}
-use Rattle.calendar_queue.specs.Changes.{unlink_right, unlink_heads, unlink_writes}
+use Rattle.std.proofs.Common.{None, sym, ap, ◌∙◌, arith}
+use Rattle.std.proofs.lemmas.List.{length-set, get_or_read}
+use Rattle.calendar_queue.specs.Links.{named}
+use Rattle.calendar_queue.specs.Changes.{unlink_kept}
 use Rattle.calendar_queue.proofs.lists.Lists.unlink.Goals as goal
 
-pub bounds-self-from-2 : goal.bounds-self-from-2
-bounds-self-from-2 c =
-    let l : c.seek-place.result < 12480 = stands_below (table c.args.self.now.moments) c.seek-place.result (bucket c.args.moment) (bucket_below c.args.moment) c.seek-place.ensures.stands in
-    omega arith
+pub invariant_of-self-clause-placed : goal.invariant_of-self-clause-placed
+invariant_of-self-clause-placed c = let s = c.args.self.now in length-set s.next _ _ ∙ s.placed
 
-pub invariant_of-self : goal.invariant_of-self
-invariant_of-self c =
+pub invariant_of-self-clause-linked : goal.invariant_of-self-clause-linked
+invariant_of-self-clause-linked c =
     let s = c.args.self.now in
-    let m = c.args.moment in
     let e = c.seek-place.ensures in
-    let w = unlink_writes (λ (us : List (Option Moment)) (vs : List ℕ). Linked us vs) s.moments s.next None c.args.slot c.seek-place.result c.from.result c.from-2.result c.from-3.result
-    c.from.ensures c.from-2.ensures c.from-3.ensures
-    (unlink_right s.moments s.next c.args.slot c.seek-place.result m s.held s.placed (linked_known s.moments s.next s.linked) c.requires.inside e.stands e.opens e.last c.requires.full) in
-    record {
-      held = length-set s.moments _ _ ∙ s.held;
-      placed = length-set s.next _ _ ∙ s.placed;
-      linked = ∣ w ∣₁;
-    }
+    let r = c.index-self-slot in
+    (unlink_kept s.moments s.next c.args.entry c.seek-place.result _ s.held s.placed s.linked e c.requires (sym r.is ∙ get_or_read s.next c.place-slot.result _ (omega (arith, c.place-slot.ensures.below, s.placed)) r.is None ∙ ap (named s.next) c.place-slot.ensures.value) c.place-slot.result c.place-slot.ensures.value).0
 
-pub returns : goal.returns
-returns c =
+pub returns-clause-others : goal.returns-clause-others
+returns-clause-others c =
     let s = c.args.self.now in
-    let m = c.args.moment in
     let e = c.seek-place.ensures in
-    record {
-      moments = ap (λ (k : ℕ). set s.moments k None) c.from-3.ensures;
-      others = λ b lb ne.
-          unlink_writes (λ (us : List (Option Moment)) (vs : List ℕ). head_of us vs b ≡ head_of s.moments s.next b) s.moments s.next None c.args.slot c.seek-place.result c.from.result c.from-2.result c.from-3.result
-          c.from.ensures c.from-2.ensures c.from-3.ensures
-          (unlink_heads s.moments s.next c.args.slot c.seek-place.result m s.held s.placed (linked_known s.moments s.next s.linked) c.requires.inside e.stands e.opens e.last c.requires.full b lb ne);
-    }
+    let r = c.index-self-slot in
+    (unlink_kept s.moments s.next c.args.entry c.seek-place.result _ s.held s.placed s.linked e c.requires (sym r.is ∙ get_or_read s.next c.place-slot.result _ (omega (arith, c.place-slot.ensures.below, s.placed)) r.is None ∙ ap (named s.next) c.place-slot.ensures.value) c.place-slot.result c.place-slot.ensures.value).1

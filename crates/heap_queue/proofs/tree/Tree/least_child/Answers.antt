@@ -1,13 +1,15 @@
-use Rattle.std.proofs.Common.{sym, arith}
-use Rattle.heap_queue.specs.Tables.{table_laws}
-use Rattle.heap_queue.specs.Gaps.{left_least, right_least}
+use Rattle.std.proofs.Common.{◌+◌, ◌*◌, ◌<◌, sym, ◌∙◌, arith}
+use Rattle.queues.specs.EntryOrder.{less}
+use Rattle.heap_queue.specs.Gaps.{carry, left_least}
 use Rattle.heap_queue.proofs.tree.Tree.least_child.Goals as goal
+use Rattle.heap_queue.proofs.tree.Tree.least_child.Goals.{else-right-self-via-then-right-self+else-lt, else-right-self-via-else-right-self}
 
-pub returns-then-right-self : goal.returns-then-right-self
-returns-then-right-self c = left_least _ (table_laws c.args.moments.now) c.args.self.now c.args.gap c.requires.1 (λ h. absurd (omega arith))
-
-pub returns-then-before : goal.returns-then-before
-returns-then-before c = right_least _ (table_laws c.args.moments.now) c.args.self.now c.args.gap c.if-right-self.false (sym c.if-before.ensures)
-
-pub returns-else-before : goal.returns-else-before
-returns-else-before c = left_least _ (table_laws c.args.moments.now) c.args.self.now c.args.gap c.requires.1 (λ h. sym c.if-before.ensures)
+pub returns-else-right-self : goal.returns-else-right-self
+returns-else-right-self c =
+    let t = c.args.self.now in
+    let gap = c.args.gap in
+    left_least t gap c.requires
+    (elim c.else-right-self.branch [
+      | else-right-self-via-then-right-self+else-lt w ↦ λ (h : 2 * gap + 1 + 1 < t.len). carry (sym w.entry.ensures) (sym w.entry-then-right-self.ensures) (sym (less w.entry.result w.entry-then-right-self.result) ∙ sym w.if-lt.ensures)
+      | else-right-self-via-else-right-self w ↦ λ (h : 2 * gap + 1 + 1 < t.len). absurd (omega arith)
+    ])
