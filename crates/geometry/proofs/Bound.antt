@@ -1,5 +1,5 @@
 -- Sums and products of the code, and that they fit.
-use Rattle.std.proofs.Common.{◌≡◌, ℕ, ◌*◌, ◌^◌, ◌<◌, ◌≤◌, ℤ, pos, negsuc, ◌+ℤ◌, ◌-ℤ◌, ◌*ℤ◌, nat_abs, sym, refl, ap, ◌∙◌, subst, ap₂, mul-le-mul, arith, w32, w64, SFits, to_z, of_z}
+use Rattle.std.proofs.Common.{◌≡◌, ℕ, ◌*◌, ◌^◌, ◌<◌, ◌≤◌, ℤ, pos, negsuc, ◌+ℤ◌, ◌-ℤ◌, ◌*ℤ◌, nat_abs, sym, ap, ◌∙◌, subst, ap₂, mul-le-mul, arith, w32, w64, SFits, to_z, of_z}
 use Rattle.std.proofs.lemmas.Int.{to_z-of_z}
 use borrow.Author.Differences.{ints, up, down}
 
@@ -8,10 +8,10 @@ abbrev pub back : ℤ → ℤ
 back z = to_z w64 (of_z w64 z)
 
 -- -m ≤ z ≤ m
-abbrev pub In : ℕ → ℤ → Type 0
+abbrev In : ℕ → ℤ → Type 0
 In m z = (up z ≤ m) × (down z ≤ m)
 
-pub in_abs : (m : ℕ) (z : ℤ) → nat_abs z ≤ m → In m z
+in_abs : (m : ℕ) (z : ℤ) → nat_abs z ≤ m → In m z
 in_abs m (pos n) h = omega arith
 in_abs m (negsuc n) h = omega arith
 
@@ -25,23 +25,24 @@ back_is : (m : ℕ) (z : ℤ) → m < 2 ^ 63 → In m z → back z ≡ z
 back_is m z b i = to_z-of_z w64 z (in_fits m z b i)
 
 -- the product of a signed number and a cast natural, as the code has it
-module _ (a x : ℤ) (n m k : ℕ) (i : In m a) (e : x ≡ pos n) (l : n ≤ k) (bm : m < 2 ^ 62) (bk : k < 2 ^ 62) (b : m * k < 2 ^ 62) where
-  pub prod_is : back a *ℤ back x ≡ a *ℤ pos n
-  prod_is = ap₂ ◌*ℤ◌ (back_is m a (omega arith) i) (ap back e ∙ back_is k (pos n) (omega arith) (l, omega arith))
+module _ (a x : ℤ) (n m k : ℕ) (h : nat_abs a ≤ m) (e : x ≡ pos n) (l : n ≤ k) (bm : m < 2 ^ 62) (bk : k < 2 ^ 62) (b : m * k < 2 ^ 62) where
+  prod_is : back a *ℤ back x ≡ a *ℤ pos n
+  prod_is = ap₂ ◌*ℤ◌ (back_is m a (omega arith) (in_abs m a h)) (ap back e ∙ back_is k (pos n) (omega arith) (l, omega arith))
 
-  pub prod_fits : SFits w64 (back a *ℤ back x)
-  prod_fits = subst (λ (z : ℤ). SFits w64 z) (sym prod_is) (omega (arith, ints, in_times a n m k i l))
+  prod_back : back (back a *ℤ back x) ≡ a *ℤ pos n
+  prod_back = ap back prod_is ∙ to_z-of_z w64 (a *ℤ pos n) (omega (arith, ints, in_times a n m k (in_abs m a h) l))
 
--- the value of a line, as the code has it
-module _ (a x v y : ℤ) (d n m k m' k' : ℕ) (i : In m a) (e : x ≡ pos d) (l : d ≤ k) (j : In m' v) (f : y ≡ pos n) (l' : n ≤ k')
-    (bm : m < 2 ^ 62) (bk : k < 2 ^ 62) (b : m * k < 2 ^ 61) (bm' : m' < 2 ^ 62) (bk' : k' < 2 ^ 62) (b' : m' * k' < 2 ^ 62) where
+-- the value of a gap's line at a time, as the code has it
+module _ (a x v y : ℤ) (d n : ℕ) (ha : nat_abs a ≤ 4294970000) (e : x ≡ pos d) (hd : d ≤ 16000) (hv : nat_abs v ≤ 4294967295) (f : y ≡ pos n) (hn : n ≤ 800000000) where
   sum_is : back (back a *ℤ back x) +ℤ back (back v *ℤ back y) ≡ (a *ℤ pos d) +ℤ (v *ℤ pos n)
   sum_is =
-      ap₂ ◌+ℤ◌ (to_z-of_z w64 (back a *ℤ back x) (prod_fits a x d m k i e l bm bk (omega arith)) ∙ prod_is a x d m k i e l bm bk (omega arith))
-      (to_z-of_z w64 (back v *ℤ back y) (prod_fits v y n m' k' j f l' bm' bk' b') ∙ prod_is v y n m' k' j f l' bm' bk' b')
+      ap₂ ◌+ℤ◌ (prod_back a x d 4294970000 16000 ha e hd (omega arith) (omega arith) (omega arith))
+      (prod_back v y n 4294967295 800000000 hv f hn (omega arith) (omega arith) (omega arith))
 
   pub line_fits : SFits w64 (back (back a *ℤ back x) +ℤ back (back v *ℤ back y))
-  line_fits = subst (λ (z : ℤ). SFits w64 z) (sym sum_is) (omega (arith, ints, in_times a d m k i l, in_times v n m' k' j l'))
+  line_fits =
+      subst (λ (z : ℤ). SFits w64 z) (sym sum_is)
+      (omega (arith, ints, in_times a d 4294970000 16000 (in_abs 4294970000 a ha) hd, in_times v n 4294967295 800000000 (in_abs 4294967295 v hv) hn))
 
   pub line_is : back (back (back a *ℤ back x) +ℤ back (back v *ℤ back y)) ≡ (a *ℤ pos d) +ℤ (v *ℤ pos n)
   line_is = to_z-of_z w64 (back (back a *ℤ back x) +ℤ back (back v *ℤ back y)) line_fits ∙ sum_is
@@ -50,34 +51,18 @@ module _ (a x v y : ℤ) (d n m k m' k' : ℕ) (i : In m a) (e : x ≡ pos d) (l
 wide : (z : ℤ) → SFits w32 z → In 2147483648 z
 wide z f = omega (arith, ints)
 
--- x less y, less the reaches d and u, as the code has it
-module _ (x y : ℤ) (d u : ℕ) (fx : SFits w32 x) (fy : SFits w32 y) (hd : d ≤ 1000) (hu : u ≤ 1000) (a b r s : ℤ) (ea : a ≡ x) (eb : b ≡ y) (er : r ≡ pos d) (es : s ≡ pos u) where
-  apart_is : back (back a -ℤ back b) ≡ x -ℤ y
-  apart_is =
-      ap back (ap₂ ◌-ℤ◌ (ap back ea ∙ back_is 2147483648 x (omega arith) (wide x fx)) (ap back eb ∙ back_is 2147483648 y (omega arith) (wide y fy)))
-      ∙ to_z-of_z w64 (x -ℤ y) (omega (arith, ints, wide x fx, wide y fy))
-
+-- what lies between x and y, less the reaches d and u, as the code has it
+module _ (x y z r s : ℤ) (d u : ℕ) (fx : SFits w32 x) (fy : SFits w32 y) (hd : d ≤ 1000) (hu : u ≤ 1000) (ez : z ≡ x -ℤ y) (er : r ≡ pos d) (es : s ≡ pos u) where
   reach_is : back (back r +ℤ back s) ≡ pos d +ℤ pos u
   reach_is =
       ap back (ap₂ ◌+ℤ◌ (ap back er ∙ back_is 1000 (pos d) (omega arith) (hd, omega arith)) (ap back es ∙ back_is 1000 (pos u) (omega arith) (hu, omega arith)))
       ∙ to_z-of_z w64 (pos d +ℤ pos u) (omega (arith, ints))
 
-  gap_fits : SFits w64 ((x -ℤ y) -ℤ (pos d +ℤ pos u))
-  gap_fits = omega (arith, ints, wide x fx, wide y fy)
+  apart_is : back z ≡ x -ℤ y
+  apart_is = ap back ez ∙ to_z-of_z w64 (x -ℤ y) (omega (arith, ints, wide x fx, wide y fy))
 
-  pub sub_fits : SFits w64 (back (back a -ℤ back b) -ℤ back (back r +ℤ back s))
-  sub_fits = subst (λ (z : ℤ). SFits w64 z) (sym (ap₂ ◌-ℤ◌ apart_is reach_is)) gap_fits
-
-  pub gap_is : back (back (back a -ℤ back b) -ℤ back (back r +ℤ back s)) ≡ (x -ℤ pos d) -ℤ (y +ℤ pos u)
-  gap_is = ap back (ap₂ ◌-ℤ◌ apart_is reach_is) ∙ to_z-of_z w64 ((x -ℤ y) -ℤ (pos d +ℤ pos u)) gap_fits ∙ omega (arith, ints)
-
-  pub gap_near : nat_abs (back (back (back a -ℤ back b) -ℤ back (back r +ℤ back s))) ≤ 4294970000
-  gap_near = subst (λ (z : ℤ). nat_abs z ≤ 4294970000) (sym gap_is) (omega (arith, ints, wide x fx, wide y fy))
-
--- x less y
-module _ (x y : ℤ) (fx : SFits w32 x) (fy : SFits w32 y) (a b : ℤ) (ea : a ≡ x) (eb : b ≡ y) where
-  pub slope_is : back (back a -ℤ back b) ≡ x -ℤ y
-  slope_is = apart_is x y 0 0 fx fy (omega arith) (omega arith) a b (pos 0) (pos 0) ea eb refl refl
-
-  pub slope_slow : nat_abs (back (back a -ℤ back b)) ≤ 4294967295
-  slope_slow = subst (λ (z : ℤ). nat_abs z ≤ 4294967295) (sym slope_is) (omega (arith, ints))
+  pub gap_is : back (back z -ℤ back (back r +ℤ back s)) ≡ (x -ℤ pos d) -ℤ (y +ℤ pos u)
+  gap_is =
+      ap back (ap₂ ◌-ℤ◌ apart_is reach_is)
+      ∙ to_z-of_z w64 ((x -ℤ y) -ℤ (pos d +ℤ pos u)) (omega (arith, ints, wide x fx, wide y fy))
+      ∙ omega (arith, ints)

@@ -1,26 +1,27 @@
 -- The code's boxes, spans and gaps as values.
-use Rattle.std.specs.Prelude.{ℕ, Bool, cond, not, ◌&&◌, ◌||◌, ℤ, pos, ◌+ℤ◌, ◌-ℤ◌, Some, None, Ok, Err, Option, Result, int_lt}
+use Rattle.std.specs.Prelude.{ℕ, Bool, cond, not, ◌&&◌, ◌||◌, ℤ, pos, ◌+ℤ◌, ◌-ℤ◌, Some, None, Ok, Err, Option, Result, int_lt, nat_le}
 use Rattle.rules.specs.Stamps.{Stamp}
-use Rattle.rules.specs.Paths as path
 use Rattle.rules.specs.Paths.{Line, xyz, value}
 use Rattle.rules.specs.Boxes.{Box, Ends, box_right}
 use Rattle.times.specs.declared.moment.Moment.{Moment}
 use Rattle.times.specs.declared.refusal.Refusal.{Refusal}
 use Rattle.times.specs.Refusals.{number_of}
 use Rattle.times.specs.Of.{moment_of}
-use Rattle.geometry.specs.declared.axis.Axis.{Axis}
-use Rattle.geometry.specs.declared.axis.Axis.TheVariants.{X, Y, Z}
+use Rattle.geometry.specs.declared.reach.Reach.{Reach}
 use Rattle.geometry.specs.declared.sizes.HalfSizes.{HalfSizes}
 use Rattle.geometry.specs.declared.span.Span.{Span}
 use Rattle.geometry.specs.declared.gap.Gap.{Gap}
 
-abbrev pub axis_of : Axis → path.Axis
-axis_of X = path.X
-axis_of Y = path.Y
-axis_of Z = path.Z
+-- what comes of making a reach
+abbrev pub reach_told : Result Reach Refusal → Result ℕ ℕ
+reach_told (Ok r) = Ok r.half
+reach_told (Err e) = Err (number_of e)
+
+abbrev pub reach_made : ℕ → Result ℕ ℕ
+reach_made n = cond (nat_le 1 n && nat_le n 1000) (Ok n) (Err 6)
 
 abbrev pub box_of : HalfSizes → Box
-box_of s = record { half = xyz s.x s.y s.z }
+box_of s = record { half = xyz s.each.x.half s.each.y.half s.each.z.half }
 
 -- a box by its half sizes
 abbrev pub sizes : (x y z : ℕ) → Box
@@ -40,8 +41,8 @@ line_of l = record { base = l.0; slope = l.1 }
 
 abbrev pub span_of : Span → Ends
 span_of s = record {
-  low = record { base = s.a -ℤ pos s.down; slope = s.v };
-  high = record { base = s.a +ℤ pos s.up; slope = s.v };
+  low = record { base = s.a -ℤ pos s.down.half; slope = s.v };
+  high = record { base = s.a +ℤ pos s.up.half; slope = s.v };
 }
 
 abbrev pub gap_of : Gap → Line

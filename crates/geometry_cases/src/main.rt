@@ -1,7 +1,8 @@
 //! Answers cases of overlap and first wrong moments that stand on its input, one to a line, by tools/geometry_cases.py.
 #![tactic(auto)]
 
-use geometry::{Axis, HalfSizes, Span, first_wrong, overlaps};
+use fleet::{Axis, Xyz};
+use geometry::{HalfSizes, Span, first_wrong, overlaps};
 use std::io;
 use std::io::{BufRead, BufReader};
 use times::{Moment, Time};
@@ -19,16 +20,12 @@ struct Case {
 }
 
 fn numbers(line: &str) -> Option<[i64; NUMBERS]> {
+    let mut words = line.split_whitespace();
     let mut all = [0i64; NUMBERS];
-    let mut count = 0usize;
-    for word in line.split_whitespace() {
-        if count >= NUMBERS {
-            return None;
-        }
-        all[count] = word.parse::<i64>().ok()?;
-        count += 1;
+    for number in &mut all {
+        *number = words.next()?.parse().ok()?;
     }
-    if count == NUMBERS { Some(all) } else { None }
+    words.next().is_none().then_some(all)
 }
 
 fn axis(number: i64) -> Option<Axis> {
@@ -41,11 +38,11 @@ fn axis(number: i64) -> Option<Axis> {
 }
 
 fn sizes(x: i64, y: i64, z: i64) -> Option<HalfSizes> {
-    HalfSizes::new(
-        u16::try_from(x).ok()?,
-        u16::try_from(y).ok()?,
-        u16::try_from(z).ok()?,
-    )
+    HalfSizes::new(Xyz {
+        x: u16::try_from(x).ok()?,
+        y: u16::try_from(y).ok()?,
+        z: u16::try_from(z).ok()?,
+    })
     .ok()
 }
 

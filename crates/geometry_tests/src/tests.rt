@@ -1,57 +1,85 @@
-use geometry::{Axis, HalfSizes, Span, first_wrong, overlaps};
+use fleet::{Axis, Xyz};
+use geometry::{HalfSizes, Span, first_wrong, overlaps};
 use std::process::Abort;
 use std::test::Fail;
 use times::{Moment, Refusal, Time};
 
-// the bit, two lines (a, v) with half sizes, the moment (n, d, side), and the first wrong one, or side 2 for never
+// a moment as n, d and side
+type Numbers = (u32, u16, u8);
+
+// the bit, two lines (a, v) with half sizes, the moment, and the first wrong one, if there is one
 type Row = (
     bool,
     (i32, i32),
     u16,
     (i32, i32),
     u16,
-    (u32, u16, u8),
-    (u32, u16, u8),
+    Numbers,
+    Option<Numbers>,
 );
 
-const NEVER: (u32, u16, u8) = (0, 1, 2);
+const NEVER: Option<Numbers> = None;
 
 const CONTACTS: [Row; 10] = [
     // from 100 below, at 3 a tick: the ends meet after 80 of the way, and leave each other after 120
-    (false, (-100, 3), 12, (0, 0), 8, (0, 1, 0), (80, 3, 0)),
-    (true, (-100, 3), 12, (0, 0), 8, (80, 3, 0), (40, 1, 1)),
+    (false, (-100, 3), 12, (0, 0), 8, (0, 1, 0), Some((80, 3, 0))),
+    (true, (-100, 3), 12, (0, 0), 8, (80, 3, 0), Some((40, 1, 1))),
     (false, (-100, 3), 12, (0, 0), 8, (40, 1, 1), NEVER),
     // the same from above
-    (false, (100, -3), 12, (0, 0), 8, (0, 1, 0), (80, 3, 0)),
-    (true, (100, -3), 12, (0, 0), 8, (80, 3, 1), (40, 1, 1)),
+    (false, (100, -3), 12, (0, 0), 8, (0, 1, 0), Some((80, 3, 0))),
+    (true, (100, -3), 12, (0, 0), 8, (80, 3, 1), Some((40, 1, 1))),
     // the other one moves
-    (false, (0, 0), 12, (100, -3), 8, (0, 1, 0), (80, 3, 0)),
+    (false, (0, 0), 12, (100, -3), 8, (0, 1, 0), Some((80, 3, 0))),
     // ends that meet at the moment itself overlap at side 0, and where they part not at side 1
-    (false, (0, -1), 10, (15, 1), 5, (0, 1, 0), (0, 1, 0)),
-    (true, (0, -1), 10, (15, 1), 5, (0, 1, 0), (0, 1, 1)),
-    (true, (0, -1), 10, (15, 1), 5, (0, 1, 1), (0, 1, 1)),
+    (false, (0, -1), 10, (15, 1), 5, (0, 1, 0), Some((0, 1, 0))),
+    (true, (0, -1), 10, (15, 1), 5, (0, 1, 0), Some((0, 1, 1))),
+    (true, (0, -1), 10, (15, 1), 5, (0, 1, 1), Some((0, 1, 1))),
     (false, (0, -1), 10, (15, 1), 5, (0, 1, 1), NEVER),
 ];
 
 const SPEEDS: [Row; 6] = [
     // equal speeds: a bit is wrong now or never
     (true, (0, 7), 10, (15, 7), 5, (3, 2, 0), NEVER),
-    (false, (0, 7), 10, (15, 7), 5, (3, 2, 0), (3, 2, 0)),
-    (true, (0, 7), 10, (16, 7), 5, (3, 2, 1), (3, 2, 1)),
+    (false, (0, 7), 10, (15, 7), 5, (3, 2, 0), Some((3, 2, 0))),
+    (true, (0, 7), 10, (16, 7), 5, (3, 2, 1), Some((3, 2, 1))),
     (false, (0, 7), 10, (16, 7), 5, (3, 2, 1), NEVER),
     // to 10, and from there back: the pair touches for one instant
-    (false, (0, 1), 10, (25, 0), 5, (0, 1, 0), (10, 1, 0)),
-    (true, (20, -1), 10, (25, 0), 5, (10, 1, 0), (10, 1, 1)),
+    (false, (0, 1), 10, (25, 0), 5, (0, 1, 0), Some((10, 1, 0))),
+    (true, (20, -1), 10, (25, 0), 5, (10, 1, 0), Some((10, 1, 1))),
 ];
 
 const LIMITS: [Row; 12] = [
     // at 50,000 and just past it
-    (false, (0, 1), 1, (50002, 0), 1, (0, 1, 0), (50000, 1, 0)),
+    (
+        false,
+        (0, 1),
+        1,
+        (50002, 0),
+        1,
+        (0, 1, 0),
+        Some((50000, 1, 0)),
+    ),
     (false, (0, 1), 1, (50003, 0), 1, (0, 1, 0), NEVER),
-    (true, (0, 1), 1, (49998, 0), 1, (50000, 1, 0), (50000, 1, 1)),
+    (
+        true,
+        (0, 1),
+        1,
+        (49998, 0),
+        1,
+        (50000, 1, 0),
+        Some((50000, 1, 1)),
+    ),
     (true, (0, 1), 1, (49999, 0), 1, (50000, 1, 0), NEVER),
     (false, (0, 2), 1, (100003, 0), 1, (0, 1, 0), NEVER),
-    (false, (0, 2), 1, (100001, 0), 1, (0, 1, 0), (99999, 2, 0)),
+    (
+        false,
+        (0, 2),
+        1,
+        (100001, 0),
+        1,
+        (0, 1, 0),
+        Some((99999, 2, 0)),
+    ),
     // the largest speeds and distances
     (
         false,
@@ -60,7 +88,7 @@ const LIMITS: [Row; 12] = [
         (400000000, -8000),
         1000,
         (0, 1, 0),
-        (399999, 8, 0),
+        Some((399999, 8, 0)),
     ),
     (
         false,
@@ -69,7 +97,7 @@ const LIMITS: [Row; 12] = [
         (400000000, -8000),
         1,
         (0, 1, 0),
-        (799999997, 16000, 0),
+        Some((799999997, 16000, 0)),
     ),
     (
         true,
@@ -106,21 +134,22 @@ const LIMITS: [Row; 12] = [
         (2147483647, -2147483648),
         1,
         (0, 1, 0),
-        (0, 1, 0),
+        Some((0, 1, 0)),
     ),
 ];
 
-fn told(m: Option<Moment>) -> (u32, u16, u8) {
-    match m {
-        Some(m) => (m.time.numerator(), m.time.denominator(), u8::from(m.after)),
-        None => NEVER,
-    }
+fn half(x: u16, y: u16, z: u16) -> Result<HalfSizes, Refusal> {
+    HalfSizes::new(Xyz { x, y, z })
+}
+
+fn told(m: Option<Moment>) -> Option<Numbers> {
+    m.map(|m| (m.time.numerator(), m.time.denominator(), u8::from(m.after)))
 }
 
 fn holds(rt: &impl Abort, row: Row) -> Result<(), Fail> {
     let (bit, p, g, q, h, (n, d, side), want) = row;
-    let p = Span::new(p, HalfSizes::new(1000, g, 1)?, Axis::Y);
-    let q = Span::new(q, HalfSizes::new(1000, h, 1)?, Axis::Y);
+    let p = Span::new(p, half(1000, g, 1)?, Axis::Y);
+    let q = Span::new(q, half(1000, h, 1)?, Axis::Y);
     let from = Moment {
         time: Time::new(n, d)?,
         after: side == 1,
@@ -156,8 +185,8 @@ fn limits(rt: HostRuntime) -> Result<(), Fail> {
 
 #[test]
 fn sides(rt: HostRuntime) -> Result<(), Fail> {
-    let sizes = HalfSizes::new(1, 2, 10)?;
-    let other = HalfSizes::new(3, 4, 5)?;
+    let sizes = half(1, 2, 10)?;
+    let other = half(3, 4, 5)?;
     let p = Span::new((0, -1), sizes, Axis::Z);
     let q = Span::new((15, 1), other, Axis::Z);
     let t = Time::zero();
@@ -174,13 +203,13 @@ fn sides(rt: HostRuntime) -> Result<(), Fail> {
 
 #[test]
 fn refuses(rt: HostRuntime) -> Result<(), Fail> {
-    assert_eq!(rt; HalfSizes::new(0, 1, 1), Err(Refusal::HalfSize));
-    assert_eq!(rt; HalfSizes::new(1, 0, 1), Err(Refusal::HalfSize));
-    assert_eq!(rt; HalfSizes::new(1, 1, 0), Err(Refusal::HalfSize));
-    assert_eq!(rt; HalfSizes::new(1001, 1, 1), Err(Refusal::HalfSize));
-    assert_eq!(rt; HalfSizes::new(1, 1001, 1), Err(Refusal::HalfSize));
-    assert_eq!(rt; HalfSizes::new(1, 1, 1001), Err(Refusal::HalfSize));
-    let sizes = HalfSizes::new(1, 1000, 7)?;
+    assert_eq!(rt; half(0, 1, 1), Err(Refusal::HalfSize));
+    assert_eq!(rt; half(1, 0, 1), Err(Refusal::HalfSize));
+    assert_eq!(rt; half(1, 1, 0), Err(Refusal::HalfSize));
+    assert_eq!(rt; half(1001, 1, 1), Err(Refusal::HalfSize));
+    assert_eq!(rt; half(1, 1001, 1), Err(Refusal::HalfSize));
+    assert_eq!(rt; half(1, 1, 1001), Err(Refusal::HalfSize));
+    let sizes = half(1, 1000, 7)?;
     assert_eq!(rt; sizes.on(Axis::X), 1);
     assert_eq!(rt; sizes.on(Axis::Y), 1000);
     assert_eq!(rt; sizes.on(Axis::Z), 7);

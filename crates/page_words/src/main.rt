@@ -1,26 +1,24 @@
 //! Prints a page in words: reads its bytes from standard input and writes a line for each record.
 #![tactic(auto)]
 
-use pages::{Kind, Reader};
+use pages::{Reader, Record};
 use std::io;
 use std::io::Read;
-
-/// The word for a record's kind.
-fn word(kind: Kind) -> &'static str {
-    match kind {
-        Kind::Meeting => "meeting",
-        Kind::Parting => "parting",
-    }
-}
 
 /// A line for each record, and how many there were; where the bytes are no whole record, that is said, and the rest is left.
 fn told(rt: &HostRuntime, bytes: &[u8]) -> io::Result<()> {
     let mut reader = Reader::new(bytes);
+    // No plainer as `while let`: the count is printed, and the end and damage are told apart.
     for k in 0..u64::MAX {
         match reader.next() {
             Ok(Some(record)) => {
-                let kind = word(record.kind);
-                let (lower, higher, n, d) = (record.lower, record.higher, record.n, record.d);
+                let Record {
+                    kind,
+                    lower,
+                    higher,
+                    n,
+                    d,
+                } = record;
                 println!(rt; "{kind} {lower} {higher} at {n}/{d}")?;
             }
             Ok(None) => return println!(rt; "records: {k}"),

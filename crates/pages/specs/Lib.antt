@@ -1,2 +1,4 @@
+pub mod Kinds
 pub mod Of
 pub mod Laws
+pub mod Encounters

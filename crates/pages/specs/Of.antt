@@ -1,5 +1,5 @@
 -- The code's reports and records as values, and what writing and reading come to.
-use Rattle.std.specs.Prelude.{ℕ, ◌+◌, Bool, cond, List, [], ◌∷◌, ◌++◌, length, take, drop, Some, None, Ok, Err, Option, Result, ◌==◌, nat_le}
+use Rattle.std.specs.Prelude.{ℕ, ◌+◌, Bool, cond, List, [], ◌∷◌, ◌++◌, length, take, drop, Some, None, Ok, Err, Option, Result, nat_le}
 use Rattle.rules.specs.Pages.{News, met, parted, Report, page_record, report_in}
 use Rattle.times.specs.Of.{time_of}
 use Rattle.pages.specs.declared.report.Kind.{Kind}
@@ -11,15 +11,6 @@ use Rattle.pages.specs.declared.read.Damaged.{Damaged}
 abbrev pub news_told : Kind → ℕ → ℕ → News
 news_told Meeting c d = met c d
 news_told Parting c d = parted c d
-
--- the tag of a record on a page
-abbrev pub tag_of : Kind → ℕ
-tag_of Meeting = 1
-tag_of Parting = 2
-
--- the kind that a tag tells, or none
-abbrev pub kind_of : ℕ → Option Kind
-kind_of n = cond (n == 1) (Some Meeting) (cond (n == 2) (Some Parting) None)
 
 abbrev pub report_of : Written → Report
 report_of r = record { time = time_of r.time; news = news_told r.kind r.lower r.higher }
@@ -41,12 +32,16 @@ page_after page at r = cond (has_room page at) (take at page ++ (page_record r +
 abbrev pub used_after : List ℕ → ℕ → Option ℕ
 used_after page at = cond (has_room page at) (Some (at + 11)) None
 
+-- the same as a number, where it stays as it was without room
+abbrev pub used_then : List ℕ → ℕ → ℕ
+used_then page at = cond (has_room page at) (at + 11) at
+
 -- READING
 
 -- one record of the code, or none
-abbrev pub record_in : Option Record → Option Report
-record_in None = None
-record_in (Some r) = Some (record_told r)
+abbrev pub record_in : Result Record Damaged → Option Report
+record_in (Ok r) = Some (record_told r)
+record_in (Err e) = None
 
 -- what a reader finds next: nothing more, a report, or bytes that are no record of a page
 pub data Found : Type 0 where

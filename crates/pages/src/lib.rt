@@ -5,7 +5,9 @@ pub mod laws;
 pub mod read;
 pub mod report;
 pub mod write;
+pub mod writer;
 
 pub use read::{Damaged, Reader};
-pub use report::{Kind, Record, Report};
+pub use report::{Encounter, Kind, Record, Report, UnknownTag};
 pub use write::{RECORD, write_report};
+pub use writer::PageWriter;

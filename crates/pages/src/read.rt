@@ -1,9 +1,12 @@
 //! Reading a page back.
-ghost use Rattle.std.specs.Prelude.{◌≡◌, take};
+ghost use Rattle.std.specs.Prelude.{◌≡◌, Some, codes};
 ghost use Rattle.rules.specs.Pages.{report_in};
-ghost use Rattle.pages.specs.Of.{kind_of, record_in, next_in, left_after, answer_of};
+ghost use Rattle.pages.specs.Of.{record_in, next_in, left_after, answer_of};
 
-use crate::report::{Kind, Record};
+use crate::report::{Kind, Record, UnknownTag};
+use crate::write::{LENGTH, RECORD};
+use std::error::Error;
+use std::fmt;
 
 /// What is left of the bytes does not begin with a whole record of a page.
 #[derive(Clone, Copy, PartialEq, Eq, Debug)]
@@ -16,34 +19,41 @@ pub struct Reader<'a> {
     rest: &'a [u8],
 }
 
-/// The kind that a tag tells.
-fn kind(tag: u8) -> Option<Kind>
-    ensures { result ≡ kind_of tag }
-{
-    match tag {
-        1 => Some(Kind::Meeting),
-        2 => Some(Kind::Parting),
-        _ => None,
+impl fmt::Display for Damaged {
+    ghost output = { λ _. Some (codes "no whole record of a page") };
+
+    fn fmt<W: fmt::Write>(&self, f: &mut fmt::Formatter<W>) -> fmt::Result {
+        f.write_str("no whole record of a page")
     }
 }
 
-/// The record that the bytes begin with: a tag of a page, the length 8, and the 8 bytes.
-fn first_record(bytes: &[u8]) -> Option<Record>
-    ensures { record_in result ≡ report_in (take 11 bytes.now) }
-{
-    if bytes.len() < 11 || u16::from_be_bytes([bytes[1], bytes[2]]) != 8 {
-        return None;
+impl Error for Damaged {}
+
+/// The record that the bytes are: a tag of a page, the length 8, and the 8 bytes.
+impl TryFrom<&[u8; RECORD]> for Record {
+    type Error = Damaged;
+
+    ghost try_from_gives = { λ bytes made. record_in made ≡ report_in bytes.now };
+
+    fn try_from(bytes: &[u8; RECORD]) -> Result<Record, Damaged> {
+        let [tag, high, low, lower, higher, n3, n2, n1, n0, d1, d0] = *bytes;
+        if u16::from_be_bytes([high, low]) != LENGTH {
+            return Err(Damaged);
+        }
+        Ok(Record {
+            kind: Kind::try_from(tag)?,
+            lower,
+            higher,
+            n: u32::from_be_bytes([n3, n2, n1, n0]),
+            d: u16::from_be_bytes([d1, d0]),
+        })
     }
-    let kind = kind(bytes[0])?;
-    let n = u32::from_be_bytes([bytes[5], bytes[6], bytes[7], bytes[8]]);
-    let d = u16::from_be_bytes([bytes[9], bytes[10]]);
-    Some(Record {
-        kind,
-        lower: bytes[3],
-        higher: bytes[4],
-        n,
-        d,
-    })
+}
+
+impl From<UnknownTag> for Damaged {
+    fn from(_: UnknownTag) -> Damaged {
+        Damaged
+    }
 }
 
 impl<'a> Reader<'a> {
@@ -56,6 +66,7 @@ impl<'a> Reader<'a> {
 
     /// The next record, or none at the end of the bytes. Where what is left does not begin with a whole record of a page,
     /// that is told and nothing is passed over.
+    // No plainer as an `Iterator` of results: at damage the same answer comes again and again, so a `for` over it would not end.
     pub fn next(&mut self) -> Result<Option<Record>, Damaged>
         ensures told { answer_of result ≡ next_in self.old.rest.now }
         ensures left { self.new.rest.now ≡ left_after (next_in self.old.rest.now) self.old.rest.now }
@@ -63,10 +74,9 @@ impl<'a> Reader<'a> {
         if self.rest.is_empty() {
             return Ok(None);
         }
-        let Some(record) = first_record(self.rest) else {
-            return Err(Damaged);
-        };
-        self.rest = &self.rest[11..];
+        let (first, rest) = self.rest.split_first_chunk().ok_or(Damaged)?;
+        let record = Record::try_from(first)?;
+        self.rest = rest;
         Ok(Some(record))
     }
 }

@@ -1,5 +1,5 @@
 //! Gaps between ends, and where they close.
-ghost use Rattle.std.specs.Prelude.{◌≡◌, pos, neg_ℤ, ◌≤ℤ◌};
+ghost use Rattle.std.specs.Prelude.{◌≡◌, pos, neg_ℤ, ◌≤ℤ◌, ◌-ℤ◌};
 ghost use Rattle.rules.specs.Paths.{value};
 ghost use Rattle.rules.specs.Boxes.{quotient};
 ghost use Rattle.times.specs.Of.{time_of, moment_of};
@@ -10,53 +10,57 @@ use crate::gap::Gap;
 use crate::span::Span;
 use times::{Moment, Time};
 
-/// How far p's lower end is above q's upper end.
-pub(crate) fn gap(p: Span, q: Span) -> Gap
-    ensures { gap_of result ≡ difference (span_of p).low (span_of q).high }
-{
-    let reach = i64::from(p.down) + i64::from(q.up);
-    Gap {
-        a: i64::from(p.a) - i64::from(q.a) - reach,
-        v: i64::from(p.v) - i64::from(q.v),
-    }
-}
-
-/// The gap at a time, times the time's denominator.
-fn scaled(g: Gap, t: Time) -> i64
-    ensures { result ≡ value (gap_of g) (time_of t) }
-{
-    g.a * i64::from(t.denominator()) + g.v * i64::from(t.numerator())
-}
-
-/// Whether the gap is above zero at a moment; just after a time one that is zero and rises is.
-pub(crate) fn open(g: Gap, m: Moment) -> bool
-    ensures { result ≡ above_zero (gap_of g) (moment_of m) }
-{
-    let x = scaled(g, m.time);
-    x > 0 || m.after && x == 0 && g.v > 0
-}
-
 /// The moment n / s at the side told, where that is a time.
 fn crossing(n: i64, s: i64, after: bool) -> Option<Moment>
     requires { pos 0 ≤ℤ s }
     ensures { stamp_told result ≡ sided after (quotient n s) }
 {
-    if n < 0 || s > 16000 || n > 50000 * s {
-        return None;
-    }
-    match Time::new(n as u32, s as u16) {
-        Ok(time) => Some(Moment { time, after }),
-        Err(_) => None,
-    }
+    let time = Time::new(u32::try_from(n).ok()?, u16::try_from(s).ok()?).ok()?;
+    Some(Moment { time, after })
 }
 
-/// When the gap is zero, at the side told, where that is a time.
-pub(crate) fn closing(g: Gap, after: bool) -> Option<Moment>
-    ensures { stamp_told result ≡ sided after (quotient (neg_ℤ (gap_of g).base) (gap_of g).slope) }
+/// How far x is above y.
+fn apart(x: i32, y: i32) -> i64
+    ensures { result ≡ x -ℤ y }
 {
-    if g.v < 0 {
-        crossing(g.a, -g.v, after)
-    } else {
-        crossing(-g.a, g.v, after)
+    i64::from(x) - i64::from(y)
+}
+
+impl Gap {
+    /// How far p's lower end is above q's upper end.
+    pub(crate) fn between(p: Span, q: Span) -> Gap
+        ensures { gap_of result ≡ difference (span_of p).low (span_of q).high }
+    {
+        let reach = i64::from(p.down.half) + i64::from(q.up.half);
+        Gap {
+            a: apart(p.a, q.a) - reach,
+            v: apart(p.v, q.v),
+        }
+    }
+
+    /// The gap at a time, times the time's denominator.
+    fn scaled(self, t: Time) -> i64
+        ensures { result ≡ value (gap_of self) (time_of t) }
+    {
+        self.a * i64::from(t.denominator()) + self.v * i64::from(t.numerator())
+    }
+
+    /// Whether the gap is above zero at a moment; just after a time one that is zero and rises is.
+    pub(crate) fn open(self, m: Moment) -> bool
+        ensures { result ≡ above_zero (gap_of self) (moment_of m) }
+    {
+        let x = self.scaled(m.time);
+        x > 0 || m.after && x == 0 && self.v > 0
+    }
+
+    /// When the gap is zero, at the side told, where that is a time.
+    pub(crate) fn closing(self, after: bool) -> Option<Moment>
+        ensures { stamp_told result ≡ sided after (quotient (neg_ℤ (gap_of self).base) (gap_of self).slope) }
+    {
+        if self.v < 0 {
+            crossing(self.a, -self.v, after)
+        } else {
+            crossing(-self.a, self.v, after)
+        }
     }
 }
