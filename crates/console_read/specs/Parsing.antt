@@ -1,5 +1,5 @@
 -- What a line is read as.
-use Rattle.std.specs.Prelude.{ℕ, cond, List, length, Some, None, Option, ◌==◌, nat_lt}
+use Rattle.std.specs.Prelude.{ℕ, cond, List, length, Some, None, Ok, Err, Option, Result, ◌==◌, nat_lt}
 use Rattle.console_text.specs.Texts.{before_comment, words}
 use Rattle.console_read.specs.Keywords.{keyword_of}
 use Rattle.console_read.specs.Shapes.{Words, at, and_then, of_words, open_of, room_of, file_of, ride_of, enter_of, leave_of, set_of, touching_of, certificate_of, leg_of, follows_of}
@@ -7,8 +7,7 @@ use Rattle.console_read.specs.declared.command.Command.{Command}
 use Rattle.console_read.specs.declared.command.Command.TheVariants.{Step as do_step, Run as do_run, Rest as do_rest, List as do_list, Cues as do_cues}
 use Rattle.console_read.specs.declared.keyword.Keyword.{Keyword}
 use Rattle.console_read.specs.declared.keyword.Keyword.TheVariants.{Open, Room, File, Ride, Enter, Leave, Set, Step, Run, Rest, Touching, List as Listing, Certificate, Leg, Follows, Cues}
-use Rattle.console_read.specs.declared.parsing.Parsed.{Parsed}
-use Rattle.console_read.specs.declared.parsing.Parsed.TheVariants.{Blank, Unreadable, Ready}
+use Rattle.console_read.specs.declared.parsing.Unreadable.{Unreadable}
 
 -- a command of one word
 abbrev pub alone_of : Words → Command → Option Command
@@ -36,14 +35,14 @@ command_of Cues ws = alone_of ws do_cues
 abbrev pub told_of : Words → Option Command
 told_of ws = and_then (keyword_of (at ws 0)) (λ k. command_of k ws)
 
-abbrev pub ready : Option Command → Parsed
-ready None = Unreadable
-ready (Some c) = Ready c
+abbrev pub ready : Option Command → Result (Option Command) Unreadable
+ready None = Err (record {})
+ready (Some c) = Ok (Some c)
 
 -- a line with no word is passed over
-abbrev pub words_read : Words → Parsed
-words_read ws = cond (length ws == 0) Blank (ready (told_of ws))
+abbrev pub words_read : Words → Result (Option Command) Unreadable
+words_read ws = cond (length ws == 0) (Ok None) (ready (told_of ws))
 
 -- a line without its end; one longer than 1,000 bytes cannot be read
-abbrev pub parsed_of : List ℕ → Parsed
-parsed_of line = cond (nat_lt 1000 (length line)) Unreadable (words_read (words (before_comment line)))
+abbrev pub parsed_of : List ℕ → Result (Option Command) Unreadable
+parsed_of line = cond (nat_lt 1000 (length line)) (Err (record {})) (words_read (words (before_comment line)))

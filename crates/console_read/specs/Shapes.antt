@@ -1,6 +1,10 @@
 -- Each command's words: how many there are, which are fixed, and how the others are read.
-use Rattle.std.specs.Prelude.{ℕ, zero, suc, ◌+◌, ◌-◌, ◌*◌, ◌/◌, ◌%◌, cond, ◌&&◌, List, [], ◌∷◌, ◌++◌, length, replicate, ℤ, pos, Some, None, codes, Option, ◌==◌, nat_le, slice_index_or}
+use Rattle.std.specs.Prelude.{ℕ, ◌+◌, ◌*◌, ◌/◌, ◌%◌, cond, ◌&&◌, List, [], ◌∷◌, length, map, drop, ℤ, Some, None, codes, Option, ◌==◌, nat_le, slice_index_or}
+use Rattle.std.specs.Borrow.{Bor}
+use Rattle.std.specs.Simd.{first_chunks}
 use Rattle.std.specs.Str.{bytes_eq}
+use Rattle.arrayvec.specs.ArrayVec.{ArrayVec}
+use Rattle.fleet.specs.declared.axes.Xyz.{Xyz}
 use Rattle.console_text.specs.Numbers.{unsigned_in, signed_in, time_in}
 use Rattle.console_read.specs.Keywords.{book_of, queue_of}
 use Rattle.console_read.specs.declared.command.LegText.{LegText}
@@ -10,6 +14,10 @@ use Rattle.console_read.specs.declared.command.Command.TheVariants.{Open, Room, 
 -- the words of a line
 abbrev pub Words : Type 0
 Words = List (List ℕ)
+
+-- the words that references point to
+abbrev pub texts : List (Bor (List ℕ)) → Words
+texts ws = map (λ w. w.now) ws
 
 -- word number k from 0
 abbrev pub at : Words → ℕ → List ℕ
@@ -37,8 +45,9 @@ size_at ws k = unsigned_in 1000000 (at ws k)
 abbrev pub speed_at : Words → ℕ → Option ℤ
 speed_at ws k = signed_in 32768 32767 (at ws k)
 
-abbrev pub coordinate_at : Words → ℕ → Option ℤ
-coordinate_at ws k = signed_in 2147483648 2147483647 (at ws k)
+-- a value on each axis
+abbrev pub xyz_of : {T : Type 0} → Option T → Option T → Option T → Option (Xyz T)
+xyz_of ox oy oz = and_then ox (λ x. and_then oy (λ y. and_then oz (λ z. Some (record { x = x; y = y; z = z }))))
 
 -- open BOOK LAYERS QUEUE
 abbrev pub open_of : Words → Option Command
@@ -63,7 +72,7 @@ ride_of ws = cond (bytes_eq (at ws 3) (codes "off")) (off_of ws) (cond (bytes_eq
 -- enter C HX HY HZ
 abbrev pub enter_of : Words → Option Command
 enter_of ws = of_words 5 ws
-    (and_then (byte_at ws 1) (λ c. and_then (short_at ws 2) (λ x. and_then (short_at ws 3) (λ y. and_then (short_at ws 4) (λ z. Some (Enter c x y z))))))
+    (and_then (byte_at ws 1) (λ c. and_then (xyz_of (short_at ws 2) (short_at ws 3) (short_at ws 4)) (λ h. Some (Enter c h))))
 
 -- leave C
 abbrev pub leave_of : Words → Option Command
@@ -71,7 +80,7 @@ leave_of ws = of_words 2 ws (and_then (byte_at ws 1) (λ c. Some (Leave c)))
 
 -- set TIME
 abbrev pub set_of : Words → Option Command
-set_of ws = of_words 2 ws (and_then (time_in (at ws 1)) (λ t. Some (Set t.0 t.1)))
+set_of ws = of_words 2 ws (and_then (time_in (at ws 1)) (λ t. Some (Set t)))
 
 -- touching A B
 abbrev pub touching_of : Words → Option Command
@@ -83,7 +92,7 @@ certificate_of ws = of_words 2 ws (and_then (short_at ws 1) (λ s. Some (Certifi
 
 -- leg C TIME
 abbrev pub leg_of : Words → Option Command
-leg_of ws = of_words 3 ws (and_then (byte_at ws 1) (λ c. and_then (time_in (at ws 2)) (λ t. Some (Leg c t.0 t.1))))
+leg_of ws = of_words 3 ws (and_then (byte_at ws 1) (λ c. and_then (time_in (at ws 2)) (λ t. Some (Leg c t))))
 
 -- follows D C
 abbrev pub follows_of : Words → Option Command
@@ -91,42 +100,40 @@ follows_of ws = of_words 3 ws (and_then (byte_at ws 1) (λ d. and_then (byte_at 
 
 -- FILING: file C at X Y Z, then legs of 5 words each, then end E
 
--- leg T VX VY VZ, the leg's number i from 0
-abbrev pub leg_text : Words → ℕ → Option LegText
-leg_text ws i = cond (bytes_eq (at ws (5 * i + 6)) (codes "leg"))
-    (and_then (short_at ws (5 * i + 7)) (λ t. and_then (speed_at ws (5 * i + 8)) (λ x. and_then (speed_at ws (5 * i + 9)) (λ y. and_then (speed_at ws (5 * i + 10)) (λ z.
-    Some (record { start = t; x = x; y = y; z = z }))))))
+-- leg T VX VY VZ
+abbrev pub leg_text : Words → Option LegText
+leg_text ws = cond (bytes_eq (at ws 0) (codes "leg"))
+    (and_then (short_at ws 1) (λ t. and_then (xyz_of (speed_at ws 2) (speed_at ws 3) (speed_at ws 4)) (λ v. Some (record { start = t; speed = v }))))
     None
 
--- the first n legs
-abbrev pub legs_text : Words → ℕ → Option (List LegText)
-legs_text ws zero = Some []
-legs_text ws (suc n) = and_then (legs_text ws n) (λ ls. and_then (leg_text ws n) (λ l. Some (ls ++ (l ∷ []))))
+-- one leg after another
+abbrev pub legs_text : List Words → Option (List LegText)
+legs_text [] = Some []
+legs_text (w ∷ ws) = and_then (leg_text w) (λ l. and_then (legs_text ws) (λ ls. Some (l ∷ ls)))
 
--- what stands in the table past the legs given
-abbrev pub blank : LegText
-blank = record { start = 0; x = pos 0; y = pos 0; z = pos 0 }
+-- at most 20 legs
+abbrev pub legs_made : List Words → Option (ArrayVec LegText)
+legs_made ws = cond (nat_le (length ws) 20) (and_then (legs_text ws) (λ ls. Some (record { items = ls }))) None
 
--- a table of 20, the legs given in front
-abbrev pub table : List LegText → List LegText
-table ls = ls ++ replicate (20 - length ls) blank
+-- the words of the legs, five by five, and that of the end, which stands after `end`
+unfoldable pub pieces_of : Words → Option (List Words × List ℕ)
+pieces_of ws = cond (length ws % 5 == 2 && bytes_eq (at ws (5 * (length ws / 5))) (codes "end"))
+    (Some (first_chunks 5 (length ws / 5) ws, at ws (5 * (length ws / 5) + 1)))
+    None
 
--- so many words make so many legs, from 0 to 20
-abbrev pub legs_in : ℕ → Option ℕ
-legs_in n = cond (nat_le 8 n && nat_le n 108 && n % 5 == 3) (Some ((n - 8) / 5)) None
+abbrev pub pieces_told : Option (Bor (List (List (Bor (List ℕ)))) × Bor (List ℕ)) → Option (List Words × List ℕ)
+pieces_told None = None
+pieces_told (Some p) = Some (map texts p.0.now, p.1.now)
 
-abbrev pub legs_table : Words → ℕ → Option (List LegText)
-legs_table ws n = and_then (legs_text ws n) (λ ls. Some (table ls))
+-- a plan of its four parts
+abbrev pub plan_of : Option ℕ → Option (Xyz ℤ) → Option (ArrayVec LegText) → Option ℕ → Option Command
+plan_of oc op ol oe = and_then oc (λ c. and_then op (λ p. and_then ol (λ ls. and_then oe (λ e. Some (File (record { craft = c; at = p; legs = ls; end = e }))))))
 
--- a plan with n legs, where the fixed words stand in their places
-abbrev pub filing_of : Words → ℕ → Option Command
-filing_of ws n =
-    and_then (byte_at ws 1) (λ c. and_then (coordinate_at ws 3) (λ x. and_then (coordinate_at ws 4) (λ y. and_then (coordinate_at ws 5) (λ z.
-    and_then (legs_table ws n) (λ ls. and_then (short_at ws (5 * n + 7)) (λ e.
-    Some (File (record { craft = c; x = x; y = y; z = z; legs = ls; count = n; end = e }))))))))
+-- the words of the craft and of its place, and those after them
+unfoldable pub filing_of : List ℕ → List ℕ → List ℕ → List ℕ → Words → Option Command
+filing_of c x y z ws = and_then (pieces_of ws) (λ p.
+    plan_of (unsigned_in 255 c) (xyz_of (signed_in 2147483648 2147483647 x) (signed_in 2147483648 2147483647 y) (signed_in 2147483648 2147483647 z)) (legs_made p.0) (unsigned_in 65535 p.1))
 
-abbrev pub fixed_of : Words → ℕ → Option Command
-fixed_of ws n = cond (bytes_eq (at ws 2) (codes "at")) (cond (bytes_eq (at ws (5 * n + 6)) (codes "end")) (filing_of ws n) None) None
-
+-- file C at X Y Z, and what stands after
 abbrev pub file_of : Words → Option Command
-file_of ws = and_then (legs_in (length ws)) (λ n. fixed_of ws n)
+file_of ws = cond (bytes_eq (at ws 2) (codes "at")) (filing_of (at ws 1) (at ws 3) (at ws 4) (at ws 5) (drop 6 ws)) None

@@ -1,4 +1,7 @@
 //! The commands of the console, with their arguments.
+use arrayvec::ArrayVec;
+use console_text::TimeText;
+use fleet::Xyz;
 
 /// The book that a console opens over.
 #[derive(Clone, Copy, PartialEq, Eq, Debug)]
@@ -15,28 +18,26 @@ pub enum Queue {
 }
 
 /// A leg as it is written: its start tick, and its speed on each axis.
-#[derive(Clone, Copy, PartialEq, Eq, Debug)]
+#[derive(Clone, Copy, PartialEq, Eq, Default, Debug)]
 pub struct LegText {
     pub start: u16,
-    pub x: i16,
-    pub y: i16,
-    pub z: i16,
+    pub speed: Xyz<i16>,
 }
 
-/// A plan as it is written: the first `count` of the legs are given.
-#[derive(Clone, Copy, PartialEq, Eq, Debug)]
+/// As many legs may be written in a plan.
+pub const MOST_LEGS: usize = 20;
+
+/// A plan as it is written.
+#[derive(Clone, PartialEq, Eq, Debug, Drop)]
 pub struct Filing {
     pub craft: u8,
-    pub x: i32,
-    pub y: i32,
-    pub z: i32,
-    pub legs: [LegText; 20],
-    pub count: u8,
+    pub at: Xyz<i32>,
+    pub legs: ArrayVec<LegText, MOST_LEGS>,
     pub end: u16,
 }
 
 /// A command with its arguments.
-#[derive(Clone, Copy, PartialEq, Eq, Debug)]
+#[derive(Clone, PartialEq, Eq, Debug, Drop)]
 pub enum Command {
     Open {
         book: Book,
@@ -56,16 +57,13 @@ pub enum Command {
     },
     Enter {
         craft: u8,
-        x: u16,
-        y: u16,
-        z: u16,
+        half: Xyz<u16>,
     },
     Leave {
         craft: u8,
     },
     Set {
-        n: u32,
-        d: u16,
+        time: TimeText,
     },
     Step,
     Run,
@@ -80,8 +78,7 @@ pub enum Command {
     },
     Leg {
         craft: u8,
-        n: u32,
-        d: u16,
+        time: TimeText,
     },
     Follows {
         d: u8,

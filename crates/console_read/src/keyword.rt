@@ -1,11 +1,13 @@
-//! The first word of a command.
-ghost use Rattle.std.specs.Prelude.{◌≡◌};
-ghost use Rattle.console_read.specs.Keywords.{asking_of, keyword_of, book_of, queue_of};
+//! The fixed words: the first word of a command, a book and a queue.
+ghost use Rattle.std.specs.Prelude.{◌≡◌, Some};
+ghost use Rattle.std.specs.Result.{result_ok};
+ghost use Rattle.console_read.specs.Keywords.{keyword_of, keyword_text, keyword_in, book_of, queue_of};
 
-use crate::command::{Book, Queue};
-use console_text::text::is;
+use crate::command::{Book, Command, Queue};
+use crate::parsing::Unreadable;
+use std::fmt;
 
-/// The command that a first word names.
+/// The first word of a command.
 #[derive(Clone, Copy, PartialEq, Eq, Debug)]
 pub enum Keyword {
     Open,
@@ -26,78 +28,120 @@ pub enum Keyword {
     Cues,
 }
 
-/// Of the words that ask and change nothing, or move the clock.
-fn asking(word: &[u8]) -> Option<Keyword>
-    ensures { result ≡ asking_of word.now }
-{
-    if is(word, b"step") {
-        Some(Keyword::Step)
-    } else if is(word, b"run") {
-        Some(Keyword::Run)
-    } else if is(word, b"rest") {
-        Some(Keyword::Rest)
-    } else if is(word, b"touching") {
-        Some(Keyword::Touching)
-    } else if is(word, b"list") {
-        Some(Keyword::List)
-    } else if is(word, b"certificate") {
-        Some(Keyword::Certificate)
-    } else if is(word, b"leg") {
-        Some(Keyword::Leg)
-    } else if is(word, b"follows") {
-        Some(Keyword::Follows)
-    } else if is(word, b"cues") {
-        Some(Keyword::Cues)
-    } else {
-        None
+impl TryFrom<&[u8]> for Keyword {
+    type Error = Unreadable;
+
+    ghost try_from_gives = { λ word r. result_ok r ≡ keyword_of word.now };
+
+    fn try_from(word: &[u8]) -> Result<Keyword, Unreadable> {
+        match word {
+            b"open" => Ok(Keyword::Open),
+            b"room" => Ok(Keyword::Room),
+            b"file" => Ok(Keyword::File),
+            b"ride" => Ok(Keyword::Ride),
+            b"enter" => Ok(Keyword::Enter),
+            b"leave" => Ok(Keyword::Leave),
+            b"set" => Ok(Keyword::Set),
+            b"step" => Ok(Keyword::Step),
+            b"run" => Ok(Keyword::Run),
+            b"rest" => Ok(Keyword::Rest),
+            b"touching" => Ok(Keyword::Touching),
+            b"list" => Ok(Keyword::List),
+            b"certificate" => Ok(Keyword::Certificate),
+            b"leg" => Ok(Keyword::Leg),
+            b"follows" => Ok(Keyword::Follows),
+            b"cues" => Ok(Keyword::Cues),
+            _ => Err(Unreadable),
+        }
     }
 }
 
-/// The command that a word names.
-pub fn named(word: &[u8]) -> Option<Keyword>
-    ensures { result ≡ keyword_of word.now }
-{
-    if is(word, b"open") {
-        Some(Keyword::Open)
-    } else if is(word, b"room") {
-        Some(Keyword::Room)
-    } else if is(word, b"file") {
-        Some(Keyword::File)
-    } else if is(word, b"ride") {
-        Some(Keyword::Ride)
-    } else if is(word, b"enter") {
-        Some(Keyword::Enter)
-    } else if is(word, b"leave") {
-        Some(Keyword::Leave)
-    } else if is(word, b"set") {
-        Some(Keyword::Set)
-    } else {
-        asking(word)
+impl Keyword {
+    /// The word.
+    pub fn as_str(self) -> &'static str
+        ensures { result.now ≡ keyword_text self }
+    {
+        match self {
+            Keyword::Open => "open",
+            Keyword::Room => "room",
+            Keyword::File => "file",
+            Keyword::Ride => "ride",
+            Keyword::Enter => "enter",
+            Keyword::Leave => "leave",
+            Keyword::Set => "set",
+            Keyword::Step => "step",
+            Keyword::Run => "run",
+            Keyword::Rest => "rest",
+            Keyword::Touching => "touching",
+            Keyword::List => "list",
+            Keyword::Certificate => "certificate",
+            Keyword::Leg => "leg",
+            Keyword::Follows => "follows",
+            Keyword::Cues => "cues",
+        }
     }
 }
 
-/// The book that a word names.
-pub fn book(word: &[u8]) -> Option<Book>
-    ensures { result ≡ book_of word.now }
-{
-    if is(word, b"single") {
-        Some(Book::Single)
-    } else if is(word, b"itinerary") {
-        Some(Book::Itinerary)
-    } else {
-        None
+impl fmt::Display for Keyword {
+    ghost output = { λ key. Some (keyword_text key) };
+
+    fn fmt<W: fmt::Write>(&self, f: &mut fmt::Formatter<W>) -> fmt::Result {
+        f.write_str(self.as_str())
     }
 }
 
-/// The queue that a word names.
-pub fn queue(word: &[u8]) -> Option<Queue>
-    ensures { result ≡ queue_of word.now }
-{
-    if is(word, b"heap") {
-        Some(Queue::Heap)
-    } else if is(word, b"calendar") {
-        Some(Queue::Calendar)
-    } else {
-        None
+impl Command {
+    /// The first word of a command.
+    pub fn keyword(&self) -> Keyword
+        ensures { result ≡ keyword_in self.now }
+    {
+        match self {
+            Command::Open { .. } => Keyword::Open,
+            Command::Room { .. } => Keyword::Room,
+            Command::File(_) => Keyword::File,
+            Command::Ride { .. } => Keyword::Ride,
+            Command::Enter { .. } => Keyword::Enter,
+            Command::Leave { .. } => Keyword::Leave,
+            Command::Set { .. } => Keyword::Set,
+            Command::Step => Keyword::Step,
+            Command::Run => Keyword::Run,
+            Command::Rest => Keyword::Rest,
+            Command::Touching { .. } => Keyword::Touching,
+            Command::List => Keyword::List,
+            Command::Certificate { .. } => Keyword::Certificate,
+            Command::Leg { .. } => Keyword::Leg,
+            Command::Follows { .. } => Keyword::Follows,
+            Command::Cues => Keyword::Cues,
+        }
+    }
+}
+
+// No plainer as one text for books and queues: each has its own words, and its definition names them.
+
+impl TryFrom<&[u8]> for Book {
+    type Error = Unreadable;
+
+    ghost try_from_gives = { λ word r. result_ok r ≡ book_of word.now };
+
+    fn try_from(word: &[u8]) -> Result<Book, Unreadable> {
+        match word {
+            b"single" => Ok(Book::Single),
+            b"itinerary" => Ok(Book::Itinerary),
+            _ => Err(Unreadable),
+        }
+    }
+}
+
+impl TryFrom<&[u8]> for Queue {
+    type Error = Unreadable;
+
+    ghost try_from_gives = { λ word r. result_ok r ≡ queue_of word.now };
+
+    fn try_from(word: &[u8]) -> Result<Queue, Unreadable> {
+        match word {
+            b"heap" => Ok(Queue::Heap),
+            b"calendar" => Ok(Queue::Calendar),
+            _ => Err(Unreadable),
+        }
     }
 }

@@ -1,96 +1,67 @@
 //! `file C at X Y Z`, then legs of 5 words each, then `end E`.
-ghost use Rattle.std.specs.Prelude.{◌≡◌, ◌≤◌, length, MatchOption};
-ghost use Rattle.console_text.specs.Texts.{words};
-ghost use Rattle.console_read.specs.Shapes.{leg_text, legs_table, legs_in, filing_of, fixed_of, file_of};
+ghost use Rattle.std.specs.Prelude.{◌≡◌, map};
+ghost use Rattle.console_read.specs.Shapes.{texts, leg_text, legs_made, pieces_of, pieces_told, filing_of, file_of};
 
-use crate::command::{Command, Filing, LegText};
-use console_text::numbers::{byte, short, signed_long, signed_short};
-use console_text::text::is;
-use console_text::words::{count, word};
+use crate::command::{Command, Filing, LegText, MOST_LEGS};
+use crate::shapes::xyz;
+use arrayvec::ArrayVec;
+use console_text::numbers::number;
 
-/// `leg T VX VY VZ`, leg number i from 0.
-fn leg_text(text: &[u8], i: u8) -> Option<LegText>
-    ensures { result ≡ leg_text (words text.now) i }
+/// `leg T VX VY VZ`.
+fn make_leg(words: &[&[u8]; 5]) -> Option<LegText>
+    ensures { result ≡ leg_text (texts words.now) }
 {
-    let at = 5 * usize::from(i);
-    if !is(word(text, at + 6), b"leg") {
+    let [b"leg", start, x, y, z] = words else {
         return None;
-    }
-    let start = short(word(text, at + 7))?;
-    let x = signed_short(word(text, at + 8))?;
-    let y = signed_short(word(text, at + 9))?;
-    let z = signed_short(word(text, at + 10))?;
-    Some(LegText { start, x, y, z })
+    };
+    Some(LegText {
+        start: number(start)?,
+        speed: xyz(x, y, z)?,
+    })
 }
 
-/// The table of the first n legs.
-fn legs_table(text: &[u8], n: u8) -> Option<[LegText; 20]>
-    requires { n ≤ 20 }
-    ensures { result ≡ legs_table (words text.now) n }
+/// So many legs.
+fn make_legs(words: &[[&[u8]; 5]]) -> Option<ArrayVec<LegText, MOST_LEGS>>
+    ensures { result ≡ legs_made (map texts words.now) }
 {
-    let mut legs = [LegText {
-        start: 0,
-        x: 0,
-        y: 0,
-        z: 0,
-    }; 20];
-    for i in 0..n {
-        legs[usize::from(i)] = leg_text(text, i)?;
+    let mut legs = ArrayVec::new();
+    for leg in words {
+        legs.try_push(make_leg(leg)?).ok()?;
     }
     Some(legs)
 }
 
-/// How many legs so many words make: from 0 to 20.
-fn legs_in(n: usize) -> Option<u8>
-    ensures value { result ≡ legs_in n }
-    ensures few { MatchOption result Unit (λ k. k ≤ 20) }
+/// `leg T VX VY VZ .. end E`: the words of the legs, five by five, and the end's.
+#[tactic(auto, unfolding(crate::specs::Shapes::pieces_of))]
+fn pieces<'a, 'b>(words: &'b [&'a [u8]]) -> Option<(&'b [[&'a [u8]; 5]], &'a [u8])>
+    ensures { pieces_told result ≡ pieces_of (texts words.now) }
 {
-    if n < 8 || n > 108 || n % 5 != 3 {
-        return None;
+    match words.as_chunks::<5>() {
+        (legs, [b"end", end]) => Some((legs, end)),
+        _ => None,
     }
-    Some(((n - 8) / 5) as u8)
 }
 
-/// The plan with n legs.
-fn filing(text: &[u8], n: u8) -> Option<Command>
-    requires { n ≤ 20 }
-    ensures { result ≡ filing_of (words text.now) n }
+/// The plan of a craft from X, Y, Z, with the legs and the end that the words after them tell.
+#[tactic(auto, unfolding(crate::specs::Shapes::filing_of))]
+fn filing(craft: &[u8], x: &[u8], y: &[u8], z: &[u8], rest: &[&[u8]]) -> Option<Command>
+    ensures { result ≡ filing_of craft.now x.now y.now z.now (texts rest.now) }
 {
-    let craft = byte(word(text, 1))?;
-    let x = signed_long(word(text, 3))?;
-    let y = signed_long(word(text, 4))?;
-    let z = signed_long(word(text, 5))?;
-    let legs = legs_table(text, n)?;
-    let end = short(word(text, 5 * usize::from(n) + 7))?;
+    let (legs, end) = pieces(rest)?;
     Some(Command::File(Filing {
-        craft,
-        x,
-        y,
-        z,
-        legs,
-        count: n,
-        end,
+        craft: number(craft)?,
+        at: xyz(x, y, z)?,
+        legs: make_legs(legs)?,
+        end: number(end)?,
     }))
 }
 
-/// The plan with n legs, where `at` and `end` stand in their places.
-fn fixed(text: &[u8], n: u8) -> Option<Command>
-    requires { n ≤ 20 }
-    ensures { result ≡ fixed_of (words text.now) n }
-{
-    if !is(word(text, 2), b"at") {
-        return None;
-    }
-    if !is(word(text, 5 * usize::from(n) + 6), b"end") {
-        return None;
-    }
-    filing(text, n)
-}
-
 /// `file C at X Y Z leg T VX VY VZ .. end E`, with 0 to 20 legs.
-pub fn file(text: &[u8]) -> Option<Command>
-    ensures { result ≡ file_of (words text.now) }
+pub fn file(words: &[&[u8]]) -> Option<Command>
+    ensures { result ≡ file_of (texts words.now) }
 {
-    let n = legs_in(count(text))?;
-    fixed(text, n)
+    match words {
+        [_, craft, b"at", x, y, z, rest @ ..] => filing(craft, x, y, z, rest),
+        _ => None,
+    }
 }

@@ -3,11 +3,12 @@
 
 pub mod command;
 pub mod gate;
-mod keyword;
+pub mod keyword;
 mod legs;
 pub mod parsing;
 mod shapes;
 
 pub use command::{Book, Command, Filing, LegText, Queue};
-pub use gate::{Need, State, Stop, clock_needed, stopped, word_of};
-pub use parsing::{Parsed, parse};
+pub use gate::{Clock, Stop, clock_needed, stopped};
+pub use keyword::Keyword;
+pub use parsing::{Unreadable, parse};

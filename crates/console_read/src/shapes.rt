@@ -1,169 +1,148 @@
 //! The commands' words: how many there are, which are fixed, and how the others are read.
 ghost use Rattle.std.specs.Prelude.{◌≡◌};
-ghost use Rattle.console_text.specs.Texts.{words};
-ghost use Rattle.console_read.specs.Shapes.{open_of, room_of, off_of, on_of, ride_of, enter_of, leave_of, set_of, touching_of, certificate_of, leg_of, follows_of};
+ghost use Rattle.console_read.specs.Shapes.{texts, xyz_of, open_of, room_of, ride_of, enter_of, leave_of, set_of, touching_of, certificate_of, leg_of, follows_of};
 
-use crate::command::Command;
-use crate::keyword::{book, queue};
-use console_text::numbers::{byte, short, time, unsigned};
-use console_text::text::is;
-use console_text::words::{count, word};
+use crate::command::{Book, Command, Queue};
+use console_text::Numeral;
+use console_text::numbers::{number, time, unsigned};
+use fleet::Xyz;
+
+/// A number on each axis.
+pub fn xyz<T: Numeral + Drop>(x: &[u8], y: &[u8], z: &[u8]) -> Option<Xyz<T>>
+    ensures { result ≡ xyz_of (T.written x.now) (T.written y.now) (T.written z.now) }
+{
+    Some(Xyz {
+        x: number(x)?,
+        y: number(y)?,
+        z: number(z)?,
+    })
+}
 
 /// `open BOOK LAYERS QUEUE`, with at most 4 layers.
-pub fn open(text: &[u8]) -> Option<Command>
-    ensures { result ≡ open_of (words text.now) }
+pub fn open(words: &[&[u8]]) -> Option<Command>
+    ensures { result ≡ open_of (texts words.now) }
 {
-    if count(text) != 4 {
+    let [_, book, layers, queue] = words else {
         return None;
-    }
-    let book = book(word(text, 1))?;
-    let layers = unsigned(word(text, 2), 4)? as u8;
-    let queue = queue(word(text, 3))?;
+    };
     Some(Command::Open {
-        book,
-        layers,
-        queue,
+        book: Book::try_from(*book).ok()?,
+        layers: u8::try_from(unsigned(layers, 4)?).ok()?,
+        queue: Queue::try_from(*queue).ok()?,
     })
 }
 
 /// `room SLIP PAGE LIST`, each at most 1,000,000.
-pub fn room(text: &[u8]) -> Option<Command>
-    ensures { result ≡ room_of (words text.now) }
+pub fn room(words: &[&[u8]]) -> Option<Command>
+    ensures { result ≡ room_of (texts words.now) }
 {
-    if count(text) != 4 {
+    let [_, slip, page, list] = words else {
         return None;
-    }
-    let slip = unsigned(word(text, 1), 1_000_000)?;
-    let page = unsigned(word(text, 2), 1_000_000)?;
-    let list = unsigned(word(text, 3), 1_000_000)?;
+    };
+    let slip = unsigned(slip, 1_000_000)?;
+    let page = unsigned(page, 1_000_000)?;
+    let list = unsigned(list, 1_000_000)?;
     Some(Command::Room { slip, page, list })
 }
 
-/// `ride C LEVEL off`.
-fn off(text: &[u8]) -> Option<Command>
-    ensures { result ≡ off_of (words text.now) }
-{
-    if count(text) != 4 {
-        return None;
-    }
-    let craft = byte(word(text, 1))?;
-    let level = byte(word(text, 2))?;
-    Some(Command::Ride {
-        craft,
-        level,
-        carrier: None,
-    })
-}
-
-/// `ride C LEVEL on K`.
-fn on(text: &[u8]) -> Option<Command>
-    ensures { result ≡ on_of (words text.now) }
-{
-    if count(text) != 5 {
-        return None;
-    }
-    let craft = byte(word(text, 1))?;
-    let level = byte(word(text, 2))?;
-    let carrier = byte(word(text, 4))?;
-    Some(Command::Ride {
-        craft,
-        level,
-        carrier: Some(carrier),
-    })
-}
-
 /// `ride C LEVEL on K` or `ride C LEVEL off`.
-pub fn ride(text: &[u8]) -> Option<Command>
-    ensures { result ≡ ride_of (words text.now) }
+pub fn ride(words: &[&[u8]]) -> Option<Command>
+    ensures { result ≡ ride_of (texts words.now) }
 {
-    if is(word(text, 3), b"off") {
-        return off(text);
+    match words {
+        [_, craft, level, b"off"] => Some(Command::Ride {
+            craft: number(craft)?,
+            level: number(level)?,
+            carrier: None,
+        }),
+        [_, craft, level, b"on", carrier] => Some(Command::Ride {
+            craft: number(craft)?,
+            level: number(level)?,
+            carrier: Some(number(carrier)?),
+        }),
+        _ => None,
     }
-    if is(word(text, 3), b"on") {
-        return on(text);
-    }
-    None
 }
 
 /// `enter C HX HY HZ`.
-pub fn enter(text: &[u8]) -> Option<Command>
-    ensures { result ≡ enter_of (words text.now) }
+pub fn enter(words: &[&[u8]]) -> Option<Command>
+    ensures { result ≡ enter_of (texts words.now) }
 {
-    if count(text) != 5 {
+    let [_, craft, x, y, z] = words else {
         return None;
-    }
-    let craft = byte(word(text, 1))?;
-    let x = short(word(text, 2))?;
-    let y = short(word(text, 3))?;
-    let z = short(word(text, 4))?;
-    Some(Command::Enter { craft, x, y, z })
+    };
+    let craft = number(craft)?;
+    let half = xyz(x, y, z)?;
+    Some(Command::Enter { craft, half })
 }
 
+// No plainer as one function over the command to make: each reader is a pattern of words and a command with names.
+
 /// `leave C`.
-pub fn leave(text: &[u8]) -> Option<Command>
-    ensures { result ≡ leave_of (words text.now) }
+pub fn leave(words: &[&[u8]]) -> Option<Command>
+    ensures { result ≡ leave_of (texts words.now) }
 {
-    if count(text) != 2 {
+    let [_, craft] = words else {
         return None;
-    }
-    let craft = byte(word(text, 1))?;
+    };
+    let craft = number(craft)?;
     Some(Command::Leave { craft })
 }
 
 /// `set TIME`.
-pub fn set(text: &[u8]) -> Option<Command>
-    ensures { result ≡ set_of (words text.now) }
+pub fn set(words: &[&[u8]]) -> Option<Command>
+    ensures { result ≡ set_of (texts words.now) }
 {
-    if count(text) != 2 {
+    let [_, at] = words else {
         return None;
-    }
-    let (n, d) = time(word(text, 1))?;
-    Some(Command::Set { n, d })
+    };
+    let time = time(at)?;
+    Some(Command::Set { time })
 }
 
 /// `touching A B`.
-pub fn touching(text: &[u8]) -> Option<Command>
-    ensures { result ≡ touching_of (words text.now) }
+pub fn touching(words: &[&[u8]]) -> Option<Command>
+    ensures { result ≡ touching_of (texts words.now) }
 {
-    if count(text) != 3 {
+    let [_, a, b] = words else {
         return None;
-    }
-    let a = byte(word(text, 1))?;
-    let b = byte(word(text, 2))?;
+    };
+    let a = number(a)?;
+    let b = number(b)?;
     Some(Command::Touching { a, b })
 }
 
 /// `certificate SLOT`.
-pub fn certificate(text: &[u8]) -> Option<Command>
-    ensures { result ≡ certificate_of (words text.now) }
+pub fn certificate(words: &[&[u8]]) -> Option<Command>
+    ensures { result ≡ certificate_of (texts words.now) }
 {
-    if count(text) != 2 {
+    let [_, slot] = words else {
         return None;
-    }
-    let slot = short(word(text, 1))?;
+    };
+    let slot = number(slot)?;
     Some(Command::Certificate { slot })
 }
 
 /// `leg C TIME`.
-pub fn leg(text: &[u8]) -> Option<Command>
-    ensures { result ≡ leg_of (words text.now) }
+pub fn leg(words: &[&[u8]]) -> Option<Command>
+    ensures { result ≡ leg_of (texts words.now) }
 {
-    if count(text) != 3 {
+    let [_, craft, at] = words else {
         return None;
-    }
-    let craft = byte(word(text, 1))?;
-    let (n, d) = time(word(text, 2))?;
-    Some(Command::Leg { craft, n, d })
+    };
+    let craft = number(craft)?;
+    let time = time(at)?;
+    Some(Command::Leg { craft, time })
 }
 
 /// `follows D C`.
-pub fn follows(text: &[u8]) -> Option<Command>
-    ensures { result ≡ follows_of (words text.now) }
+pub fn follows(words: &[&[u8]]) -> Option<Command>
+    ensures { result ≡ follows_of (texts words.now) }
 {
-    if count(text) != 3 {
+    let [_, d, c] = words else {
         return None;
-    }
-    let d = byte(word(text, 1))?;
-    let c = byte(word(text, 2))?;
+    };
+    let d = number(d)?;
+    let c = number(c)?;
     Some(Command::Follows { d, c })
 }

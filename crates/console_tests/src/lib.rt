@@ -3,51 +3,41 @@
 
 #[cfg(test)]
 mod tests {
-    use console_read::{Parsed, parse};
-    use console_text::Lines;
-    use console_text::numbers::{byte, signed_long, signed_short, time};
-    use console_text::text::is;
+    use console_read::parse;
+    use console_text::numbers::{number, time};
+    use console_text::{Lines, TimeText};
 
     fn unreadable(line: &[u8]) -> bool {
-        match parse(line) {
-            Parsed::Unreadable => true,
-            _ => false,
-        }
+        parse(line).is_err()
     }
 
     fn blank(line: &[u8]) -> bool {
-        match parse(line) {
-            Parsed::Blank => true,
-            _ => false,
-        }
+        matches!(&parse(line), Ok(None))
     }
 
     fn ready(line: &[u8]) -> bool {
-        match parse(line) {
-            Parsed::Ready(_) => true,
-            _ => false,
-        }
+        matches!(&parse(line), Ok(Some(_)))
     }
 
     #[test]
     fn numbers(rt: HostRuntime) {
-        assert_eq!(rt; byte(b"+0255"), Some(255));
-        assert_eq!(rt; byte(b"256"), None);
-        assert_eq!(rt; byte(b"-0"), None);
-        assert_eq!(rt; byte(b"+"), None);
-        assert_eq!(rt; byte(b""), None);
-        assert_eq!(rt; signed_short(b"-32768"), Some(-32768));
-        assert_eq!(rt; signed_short(b"-0"), Some(0));
-        assert_eq!(rt; signed_short(b"32768"), None);
-        assert_eq!(rt; signed_long(b"-2147483648"), Some(-2147483648));
-        assert_eq!(rt; signed_long(b"-+1"), None);
+        assert_eq!(rt; number::<u8>(b"+0255"), Some(255));
+        assert_eq!(rt; number::<u8>(b"256"), None);
+        assert_eq!(rt; number::<u8>(b"-0"), None);
+        assert_eq!(rt; number::<u8>(b"+"), None);
+        assert_eq!(rt; number::<u8>(b""), None);
+        assert_eq!(rt; number::<i16>(b"-32768"), Some(-32768));
+        assert_eq!(rt; number::<i16>(b"-0"), Some(0));
+        assert_eq!(rt; number::<i16>(b"32768"), None);
+        assert_eq!(rt; number::<i32>(b"-2147483648"), Some(-2147483648));
+        assert_eq!(rt; number::<i32>(b"-+1"), None);
     }
 
     #[test]
     fn times(rt: HostRuntime) {
-        assert_eq!(rt; time(b"80/3"), Some((80, 3)));
-        assert_eq!(rt; time(b"7"), Some((7, 1)));
-        assert_eq!(rt; time(b"1/00"), Some((1, 0)));
+        assert_eq!(rt; time(b"80/3"), Some(TimeText { n: 80, d: 3 }));
+        assert_eq!(rt; time(b"7"), Some(TimeText { n: 7, d: 1 }));
+        assert_eq!(rt; time(b"1/00"), Some(TimeText { n: 1, d: 0 }));
         assert_eq!(rt; time(b"4294967296"), None);
         assert_eq!(rt; time(b"1/65536"), None);
         assert_eq!(rt; time(b"1/2/3"), None);
@@ -88,19 +78,12 @@ mod tests {
         assert!(rt; unreadable(&[b'#'; 1001]));
     }
 
-    fn comes(lines: &mut Lines, text: &[u8]) -> bool {
-        match lines.next() {
-            Some(line) => is(line, text),
-            None => false,
-        }
-    }
-
     #[test]
     fn lines(rt: HostRuntime) {
         let mut lines = Lines::new(b"a\r\n\nb\r");
-        assert!(rt; comes(&mut lines, b"a"));
-        assert!(rt; comes(&mut lines, b""));
-        assert!(rt; comes(&mut lines, b"b\r"));
+        assert!(rt; lines.next() == Some(b"a"));
+        assert!(rt; lines.next() == Some(b""));
+        assert!(rt; lines.next() == Some(b"b\r"));
         assert!(rt; lines.next().is_none());
     }
 }

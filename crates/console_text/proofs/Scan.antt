@@ -1,91 +1,82 @@
--- Going through bytes from the left.
-use Rattle.std.proofs.Common.{◌≡◌, ℕ, suc, ◌+◌, ◌-◌, ◌*◌, ◌<◌, ◌≤◌, true, false, eqb, leb, List, [], ◌∷◌, ◌++◌, length, get_or, take, drop, Some, None, sym, refl, ap, ◌∙◌, ⊎_elim, arith, length-drop, length-take}
-use Rattle.std.proofs.lemmas.List.{at_drop_more, at_drop_all, take_more, get_or-drop, get_or_past, drop-drop}
-use Rattle.std.proofs.lemmas.Bool.{eq-eqb, ne_eqb, cond-true, cond-false, cases_Bool, lt-leb}
+-- Words from the left: spaces are passed, and a run up to a space is a word.
+use Rattle.std.proofs.Common.{◌≡◌, ℕ, ◌+◌, ◌-◌, ◌<◌, ◌≤◌, Bool, true, false, not, cond, eqb, List, [], ◌∷◌, ◌++◌, length, take, drop, position, Some, None, sym, refl, ap, ◌∙◌, ⊎_elim, append-nil, one-add, arith}
+use Rattle.std.proofs.lemmas.Grind.{common_steps}
+use Rattle.std.proofs.lemmas.Bool.{cases_Bool}
+use Rattle.std.proofs.lemmas.List.{take_rest, drop_all}
+use Rattle.std.proofs.lemmas.List.Sums.{prefix_len-le-length}
+use Rattle.std.specs.List.{position_or_len}
+use Rattle.std.specs.Option.{unwrap_or}
 use Rattle.console_text.specs.Texts.{place, keep, words_from, words}
-use Rattle.console_text.specs.Numbers.{is_digit, digits_from, limited}
 
--- PLACES
+-- where a byte other than a space first stands, or the length
+abbrev pub start : List ℕ → ℕ
+start bs = position_or_len (λ c. not (eqb c 32)) bs
 
-pub place_here : (b : ℕ) (bs : List ℕ) (i : ℕ) → i < length bs → get_or bs i 0 ≡ b → place b (drop i bs) ≡ 0
-place_here b bs i h e = at_drop_more (place b) bs i 0 h ∙ cond-true (eqb (get_or bs i 0) b) 0 (suc (place b (drop (i + 1) bs))) (eq-eqb (get_or bs i 0) b e)
+skip_more : (c : ℕ) (cs : List ℕ) → eqb c 32 ≡ true → words (drop (start cs) cs) ≡ words cs → words (drop (start (c ∷ cs)) (c ∷ cs)) ≡ words (c ∷ cs)
+skip_more c cs e h = rw (e, one-add) h
 
-pub place_more : (b : ℕ) (bs : List ℕ) (i : ℕ) → i < length bs → (get_or bs i 0 ≡ b → ⊥) → place b (drop i bs) ≡ suc (place b (drop (i + 1) bs))
-place_more b bs i h e = at_drop_more (place b) bs i 0 h ∙ cond-false (eqb (get_or bs i 0) b) 0 (suc (place b (drop (i + 1) bs))) (ne_eqb (get_or bs i 0) b e)
+skip_none : (c : ℕ) (cs : List ℕ) → eqb c 32 ≡ false → words (drop (start (c ∷ cs)) (c ∷ cs)) ≡ words (c ∷ cs)
+skip_none c cs e = ap (λ b. words (drop (cond (not (not b)) (1 + start cs) 0) (c ∷ cs))) e
 
-pub place_all : (b : ℕ) (bs : List ℕ) (i : ℕ) → length bs ≤ i → place b (drop i bs) ≡ 0
-place_all b bs i h = at_drop_all (place b) bs i h
+-- spaces are passed
+pub words_skip : (bs : List ℕ) → words (drop (start bs) bs) ≡ words bs
+words_skip [] = refl
+words_skip (c ∷ cs) = ⊎_elim (λ e. skip_more c cs e (words_skip cs)) (λ e. skip_none c cs e) (cases_Bool (eqb c 32))
 
--- DIGITS
+run_ends : (run : List ℕ) (c : ℕ) (cs : List ℕ) → eqb c 32 ≡ true → words_from run (c ∷ cs) ≡ keep (run ++ take (place 32 (c ∷ cs)) (c ∷ cs)) (words (drop (place 32 (c ∷ cs)) (c ∷ cs)))
+run_ends run c cs e = grind (arith, common_steps)
 
--- a number that is too large stays so
-pub over : (most n : ℕ) (bs : List ℕ) → most < n → limited most (digits_from n bs) ≡ None
-over most n [] h = cond-false (leb n most) (Some n) None (lt-leb n most h)
-over most n (c ∷ cs) h =
-    ⊎_elim
-    (λ e. ap (limited most) (cond-true (is_digit c) (digits_from (n * 10 + (c - 48)) cs) None e) ∙ over most (n * 10 + (c - 48)) cs (omega arith))
-    (λ e. ap (limited most) (cond-false (is_digit c) (digits_from (n * 10 + (c - 48)) cs) None e))
-    (cases_Bool (is_digit c))
+run_more : (run : List ℕ) (c : ℕ) (cs : List ℕ) → eqb c 32 ≡ false
+    → words_from (run ++ (c ∷ [])) cs ≡ keep ((run ++ (c ∷ [])) ++ take (place 32 cs) cs) (words (drop (place 32 cs) cs))
+    → words_from run (c ∷ cs) ≡ keep (run ++ take (place 32 (c ∷ cs)) (c ∷ cs)) (words (drop (place 32 (c ∷ cs)) (c ∷ cs)))
+run_more run c cs e h = grind (arith, common_steps)
 
-pub digit_more : (most n : ℕ) (bs : List ℕ) (i : ℕ) → i < length bs → is_digit (get_or bs i 0) ≡ true
-    → limited most (digits_from n (drop i bs)) ≡ limited most (digits_from (n * 10 + (get_or bs i 0 - 48)) (drop (i + 1) bs))
-digit_more most n bs i h e =
-    at_drop_more (λ l. limited most (digits_from n l)) bs i 0 h
-    ∙ ap (limited most) (cond-true (is_digit (get_or bs i 0)) (digits_from (n * 10 + (get_or bs i 0 - 48)) (drop (i + 1) bs)) None e)
+-- a run goes on to the next space
+pub words_run : (run bs : List ℕ) → words_from run bs ≡ keep (run ++ take (place 32 bs) bs) (words (drop (place 32 bs) bs))
+words_run run [] = ap (λ r. keep r []) (sym (append-nil run))
+words_run run (c ∷ cs) = ⊎_elim (λ e. run_ends run c cs e) (λ e. run_more run c cs e (words_run (run ++ (c ∷ [])) cs)) (cases_Bool (eqb c 32))
 
-pub digit_none : (most n : ℕ) (bs : List ℕ) (i : ℕ) → i < length bs → is_digit (get_or bs i 0) ≡ false → limited most (digits_from n (drop i bs)) ≡ None
-digit_none most n bs i h e =
-    at_drop_more (λ l. limited most (digits_from n l)) bs i 0 h
-    ∙ ap (limited most) (cond-false (is_digit (get_or bs i 0)) (digits_from (n * 10 + (get_or bs i 0 - 48)) (drop (i + 1) bs)) None e)
+some_more : (c : ℕ) (cs : List ℕ) → eqb c 32 ≡ true → (start cs < length cs → 0 < place 32 (drop (start cs) cs)) → start (c ∷ cs) < length (c ∷ cs) → 0 < place 32 (drop (start (c ∷ cs)) (c ∷ cs))
+some_more c cs e h = rw (e, one-add) (λ p. h (omega arith))
 
--- WORDS
+some_here : (c : ℕ) (cs : List ℕ) → eqb c 32 ≡ false → 0 < place 32 (drop (start (c ∷ cs)) (c ∷ cs))
+some_here c cs e = rw (e, e) (omega arith)
 
--- a space is passed
-pub space_more : (run bs : List ℕ) (i : ℕ) → i < length bs → get_or bs i 0 ≡ 32 → words_from run (drop i bs) ≡ keep run (words (drop (i + 1) bs))
-space_more run bs i h e =
-    at_drop_more (words_from run) bs i 0 h
-    ∙ cond-true (eqb (get_or bs i 0) 32) (keep run (words (drop (i + 1) bs))) (words_from (run ++ (get_or bs i 0 ∷ [])) (drop (i + 1) bs)) (eq-eqb _ 32 e)
+-- where a word begins there is no space
+run_some : (bs : List ℕ) → start bs < length bs → 0 < place 32 (drop (start bs) bs)
+run_some [] p = absurd (omega arith)
+run_some (c ∷ cs) p = ⊎_elim (λ e. some_more c cs e (run_some cs) p) (λ e. some_here c cs e) (cases_Bool (eqb c 32))
 
--- another byte goes to the run
-pub run_more : (run bs : List ℕ) (i : ℕ) → i < length bs → (get_or bs i 0 ≡ 32 → ⊥) → words_from run (drop i bs) ≡ words_from (run ++ (get_or bs i 0 ∷ [])) (drop (i + 1) bs)
-run_more run bs i h e =
-    at_drop_more (words_from run) bs i 0 h
-    ∙ cond-false (eqb (get_or bs i 0) 32) (keep run (words (drop (i + 1) bs))) (words_from (run ++ (get_or bs i 0 ∷ [])) (drop (i + 1) bs)) (ne_eqb _ 32 e)
+keep_some : (run : List ℕ) (ws : List (List ℕ)) → 0 < length run → keep run ws ≡ run ∷ ws
+keep_some [] ws p = absurd (omega arith)
+keep_some (c ∷ cs) ws p = refl
 
--- at a space and at the end a run is over
-pub run_ends : (run bs : List ℕ) (i : ℕ) → i < length bs → get_or bs i 0 ≡ 32 → words_from run (drop i bs) ≡ keep run (words (drop i bs))
-run_ends run bs i h e = space_more run bs i h e ∙ ap (keep run) (sym (space_more [] bs i h e))
+-- the first place at which a test passes
+found : (p : ℕ → Bool) (bs : List ℕ) (s : ℕ) → Some s ≡ position p bs → (s ≡ position_or_len p bs) × (s < length bs)
+found p bs s e = grind (arith, common_steps)
 
-pub run_last : (run bs : List ℕ) (i : ℕ) → length bs ≤ i → words_from run (drop i bs) ≡ keep run (words (drop i bs))
-run_last run bs i h = at_drop_all (words_from run) bs i h ∙ ap (keep run) (sym (at_drop_all words bs i h))
+found_or : (p : ℕ → Bool) (bs : List ℕ) → unwrap_or (position p bs) (length bs) ≡ position_or_len p bs
+found_or p bs = grind (arith, common_steps, prefix_len-le-length (λ x. not (p x)) bs)
 
-pub keep_some : (run : List ℕ) (ws : List (List ℕ)) → 0 < length run → keep run ws ≡ run ∷ ws
-keep_some [] ws h = absurd (omega arith)
-keep_some (c ∷ cs) ws h = refl
+first_run : (bs : List ℕ) → start bs < length bs → (let r = drop (start bs) bs in words bs ≡ take (place 32 r) r ∷ words (drop (place 32 r) r))
+first_run bs p =
+    let r = drop (start bs) bs in
+    let q = run_some bs p in
+    sym (words_skip bs) ∙ words_run [] r ∙ keep_some (take (place 32 r) r) (words (drop (place 32 r) r)) (grind (arith, common_steps, q, p))
 
--- the bytes from s to e, and one more
-pub run_take : (bs : List ℕ) (s e : ℕ) → s ≤ e → e < length bs → take (e + 1 - s) (drop s bs) ≡ take (e - s) (drop s bs) ++ (get_or bs e 0 ∷ [])
-run_take bs s e p q =
-    let long : e - s < length (drop s bs) = rw length-drop (omega arith) in
-    let k : e + 1 - s ≡ e - s + 1 = omega arith in
-    let j : s + (e - s) ≡ e = omega arith in
-    ap (λ (n : ℕ). take n (drop s bs)) k
-    ∙ take_more (drop s bs) (e - s) 0 long
-    ∙ ap (λ (x : ℕ). take (e - s) (drop s bs) ++ (x ∷ [])) (get_or-drop s bs (e - s) 0 ∙ ap (λ (n : ℕ). get_or bs n 0) j)
+-- the first word
+pub next_word : (bs : List ℕ) (s e : ℕ) → Some s ≡ position (λ c. not (eqb c 32)) bs
+    → (let r = take (length bs - s) (drop s bs) in e ≡ unwrap_or (position (λ c. eqb c 32) r) (length r) → words bs ≡ take e r ∷ words (drop e r))
+next_word bs s e p h =
+    let f = found (λ c. not (eqb c 32)) bs s p in
+    let r : take (length bs - s) (drop s bs) ≡ drop (start bs) bs = take_rest bs s ∙ ap (λ n. drop n bs) f.0 in
+    let k : e ≡ place 32 (take (length bs - s) (drop s bs)) = h ∙ found_or (λ c. eqb c 32) (take (length bs - s) (drop s bs)) in
+    let g = first_run bs (omega (arith, f.0, f.1)) in
+    rw (k, r) g
 
-pub run_long : (bs : List ℕ) (s e : ℕ) → s < e → e ≤ length bs → 0 < length (take (e - s) (drop s bs))
-run_long bs s e p q = simp (length-take, length-drop) (omega arith)
+lost : (p : ℕ → Bool) (bs : List ℕ) → None ≡ position p bs → length bs ≤ position_or_len p bs
+lost p bs e = grind (arith, common_steps)
 
--- what is left of a list of words
-pub none_left : (ws : List (List ℕ)) (j k : ℕ) → drop j ws ≡ [] → j ≤ k → get_or ws k [] ≡ []
-none_left ws j k e h =
-    let z : length ws - j ≡ 0 = sym (length-drop j ws) ∙ ap length e in
-    get_or_past ws k [] (omega arith)
-
-pub next_left : (ws : List (List ℕ)) (j : ℕ) (w : List ℕ) (more : List (List ℕ)) → drop j ws ≡ w ∷ more → drop (j + 1) ws ≡ more
-next_left ws j w more e = sym (drop-drop 1 j ws) ∙ ap (drop 1) e
-
-pub here_left : (ws : List (List ℕ)) (j : ℕ) (w : List ℕ) (more : List (List ℕ)) → drop j ws ≡ w ∷ more → get_or ws j [] ≡ w
-here_left ws j w more e =
-    let z : j + 0 ≡ j = omega arith in
-    ap (λ (k : ℕ). get_or ws k []) (sym z) ∙ sym (get_or-drop j ws 0 []) ∙ ap (λ (l : List (List ℕ)). get_or l 0 []) e
+-- no word
+pub no_word : (bs : List ℕ) → None ≡ position (λ c. not (eqb c 32)) bs → words bs ≡ []
+no_word bs p = sym (words_skip bs) ∙ ap words (drop_all (start bs) bs (lost (λ c. not (eqb c 32)) bs p))

@@ -1,3 +1,4 @@
 pub mod Lent
 pub mod Texts
 pub mod Numbers
+pub mod Digits

@@ -1,6 +1,7 @@
 -- Numbers and times as they may be written.
 use Rattle.std.specs.Prelude.{ℕ, ◌+◌, ◌-◌, ◌*◌, Bool, cond, ◌&&◌, List, [], ◌∷◌, length, take, drop, ℤ, pos, neg_ℤ, Some, None, Option, ◌==◌, nat_le, nat_lt, slice_index}
 use Rattle.console_text.specs.Texts.{place}
+use Rattle.console_text.specs.declared.numbers.TimeText.{TimeText}
 
 -- a decimal digit
 abbrev pub is_digit : ℕ → Bool
@@ -40,13 +41,13 @@ minus (Some n) = Some (neg_ℤ (pos n))
 abbrev pub signed_in : ℕ → ℕ → List ℕ → Option ℤ
 signed_in low high w = cond (slice_index w 0 == 45) (minus (limited low (digits_in (drop 1 w)))) (plus (unsigned_in high w))
 
-abbrev pub both : Option ℕ → Option ℕ → Option (ℕ × ℕ)
+abbrev pub both : Option ℕ → Option ℕ → Option TimeText
 both None d = None
 both (Some n) None = None
-both (Some n) (Some d) = Some (n, d)
+both (Some n) (Some d) = Some (record { n = n; d = d })
 
 -- a time N or N/D, in 32 and 16 bits; N is N/1
-abbrev pub time_in : List ℕ → Option (ℕ × ℕ)
+abbrev pub time_in : List ℕ → Option TimeText
 time_in w = cond (nat_lt (place 47 w) (length w))
     (both (unsigned_in 4294967295 (take (place 47 w) w)) (unsigned_in 65535 (drop (place 47 w + 1) w)))
     (both (unsigned_in 4294967295 w) (Some 1))

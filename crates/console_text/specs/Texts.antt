@@ -1,10 +1,14 @@
 -- Bytes as text: places, lines and words.
-use Rattle.std.specs.Prelude.{◌≡◌, ℕ, suc, ◌+◌, ◌-◌, ◌<◌, ◌≤◌, cond, List, [], ◌∷◌, ◌++◌, length, take, drop, Some, None, Option, ◌==◌, nat_lt, slice_index, slice_range}
+use Rattle.std.specs.Prelude.{ℕ, ◌+◌, ◌-◌, cond, List, [], ◌∷◌, ◌++◌, length, take, drop, Some, None, Option, ◌==◌, nat_lt, slice_index}
+use Rattle.std.specs.List.{position_or_len}
 
 -- where a byte first stands, or the length where it does not
 abbrev pub place : ℕ → List ℕ → ℕ
-place b [] = 0
-place b (c ∷ cs) = cond (c == b) 0 (suc (place b cs))
+place b bs = position_or_len (λ c. c == b) bs
+
+-- what stands before the first such byte, and what after it
+abbrev pub split_once : ℕ → List ℕ → Option (List ℕ × List ℕ)
+split_once b bs = cond (nat_lt (place b bs) (length bs)) (Some (take (place b bs) bs, drop (place b bs + 1) bs)) None
 
 -- LINES
 
@@ -47,10 +51,3 @@ words_from run (c ∷ cs) = cond (c == 32) (keep run (words_from [] cs)) (words_
 -- the longest runs without a space
 abbrev pub words : List ℕ → List (List ℕ)
 words bs = words_from [] bs
-
--- the first word at or after `from` stands from s to e
-pub record NextWord (bs : List ℕ) (from s e : ℕ) : Type 0 where
-  pub after : from ≤ s
-  pub some : s < e
-  pub within : e ≤ length bs
-  pub told : words (drop from bs) ≡ slice_range bs s e ∷ words (drop e bs)

@@ -7,3 +7,5 @@ pub mod text;
 pub mod words;
 
 pub use lines::Lines;
+pub use numbers::{Numeral, TimeText};
+pub use words::Words;

@@ -1,9 +1,10 @@
 //! The lines of the input.
-ghost use Rattle.std.specs.Prelude.{◌≡◌};
-ghost use Rattle.console_text.specs.Texts.{without_return, first_line, after_line, next_line};
+ghost use Rattle.std.specs.Prelude.{◌≡◌, length};
+ghost use Rattle.std.specs.Iterator.{at_most};
+ghost use Rattle.console_text.specs.Texts.{without_return, after_line, next_line};
 ghost use Rattle.console_text.specs.Lent.{lent};
 
-use crate::text::{after, find};
+use crate::text::split_once;
 
 /// The lines of the input, one after another, without their ends: a line feed, or a carriage return and a line feed.
 /// The last line may also end with the input.
@@ -17,33 +18,10 @@ pub struct Lines<'a> {
 fn without_return(line: &[u8]) -> &[u8]
     ensures { result.now ≡ without_return line.now }
 {
-    let n = line.len();
-    if n > 0 && line[n - 1] == b'\r' {
-        return &line[0..n - 1];
+    match line {
+        [line @ .., b'\r'] => line,
+        _ => line,
     }
-    line
-}
-
-/// The first line of the bytes, without its end.
-fn first_line(bytes: &[u8]) -> &[u8]
-    ensures { result.now ≡ first_line bytes.now }
-{
-    let k = find(bytes, b'\n');
-    if k < bytes.len() {
-        return without_return(&bytes[0..k]);
-    }
-    bytes
-}
-
-/// What comes after the first line.
-fn after_line(bytes: &[u8]) -> &[u8]
-    ensures { result.now ≡ after_line bytes.now }
-{
-    let k = find(bytes, b'\n');
-    if k < bytes.len() {
-        return after(bytes, k + 1);
-    }
-    after(bytes, k)
 }
 
 impl<'a> Lines<'a> {
@@ -53,17 +31,30 @@ impl<'a> Lines<'a> {
     {
         Lines { rest: bytes }
     }
+}
+
+impl<'a> Iterator for Lines<'a> {
+    type Item = &'a [u8];
+
+    ghost next_gives = { λ s r t. (lent r ≡ next_line s.rest.now) × (t.rest.now ≡ after_line s.rest.now) };
+
+    ghost remaining = { λ s. at_most (length s.rest.now) };
 
     /// The next line, or none at the end of the input.
-    pub fn next(&mut self) -> Option<&'a [u8]>
-        ensures told { lent result ≡ next_line self.old.rest.now }
-        ensures left { self.new.rest.now ≡ after_line self.old.rest.now }
-    {
+    fn next(&mut self) -> Option<&'a [u8]> {
         if self.rest.is_empty() {
             return None;
         }
-        let line = first_line(self.rest);
-        self.rest = after_line(self.rest);
-        Some(line)
+        match split_once(self.rest, b'\n') {
+            Some((line, rest)) => {
+                self.rest = rest;
+                Some(without_return(line))
+            }
+            None => {
+                let line = self.rest;
+                self.rest = &[];
+                Some(line)
+            }
+        }
     }
 }

@@ -1,93 +1,88 @@
 //! Numbers and times as they may be written.
-ghost use Rattle.std.specs.Prelude.{◌≡◌, ℕ, ◌≤◌, MatchOption};
-ghost use Rattle.console_text.specs.Numbers.{digits_in, limited, unsigned_in, signed_in, time_in};
+ghost use Rattle.std.specs.Prelude.{◌≡◌, ℕ, List, None, Option, Result, refl};
+ghost use Rattle.std.specs.Int.{w16, w32};
+ghost use Rattle.std.specs.Result.{result_ok};
+ghost use Rattle.std.specs.Str.{IsUtf8};
+ghost use Rattle.std.specs.declared.num.ParseIntError.{ParseIntError};
+ghost use Rattle.console_text.specs.Numbers.{unsigned_in, signed_in, time_in};
+ghost use Rattle.console_text.specs.Digits.{unsigned_read, unsigned_none, signed_read, signed_none};
 
-use crate::text::{after, find};
+use crate::text::split_once;
+use std::num::ParseIntError;
+use std::str::{self, FromStr};
 
-/// The number that one or more decimal digits give, where it is at most `most`.
-fn digits(text: &[u8], most: u32) -> Option<u32>
-    ensures { result ≡ limited most (digits_in text.now) }
-{
-    if text.is_empty() {
-        return None;
-    }
-    let mut value = 0u64;
-    for b in text {
-        if *b < b'0' || *b > b'9' {
-            return None;
-        }
-        value = value * 10 + u64::from(*b - b'0');
-        if value > u64::from(most) {
-            return None;
-        }
-    }
-    Some(value as u32)
+/// A number of some width, as it may be written: digits, with one `+` in front or none, or a `-` where it has a sign.
+pub trait Numeral: FromStr<Err = ParseIntError> {
+    // the number that a word writes
+    ghost written: { List ℕ → Option Self };
+
+    // the library reads just that, and a word that is no text writes none
+    ghost reads: { (word : List ℕ) → (¬ (IsUtf8 word) → written word ≡ None) × ((r : Result Self ParseIntError) → Self.from_str_gives word r → result_ok r ≡ written word) };
 }
 
-/// A number from 0 to `most`: digits, with one `+` in front or none.
+impl Numeral for u8 {
+    ghost written = { unsigned_in 255 };
+
+    ghost reads = { λ w. (unsigned_none 255 w, λ r h. unsigned_read 8 255 refl w r h.0) };
+}
+
+impl Numeral for u16 {
+    ghost written = { unsigned_in 65535 };
+
+    ghost reads = { λ w. (unsigned_none 65535 w, λ r h. unsigned_read 16 65535 refl w r h.0) };
+}
+
+impl Numeral for u32 {
+    ghost written = { unsigned_in 4294967295 };
+
+    ghost reads = { λ w. (unsigned_none 4294967295 w, λ r h. unsigned_read 32 4294967295 refl w r h.0) };
+}
+
+impl Numeral for i16 {
+    ghost written = { signed_in 32768 32767 };
+
+    ghost reads = { λ w. (signed_none 32768 32767 w, λ r h. signed_read w16 32768 32767 refl refl w r h.0) };
+}
+
+impl Numeral for i32 {
+    ghost written = { signed_in 2147483648 2147483647 };
+
+    ghost reads = { λ w. (signed_none 2147483648 2147483647 w, λ r h. signed_read w32 2147483648 2147483647 refl refl w r h.0) };
+}
+
+/// The number that a word writes.
+pub fn number<T: Numeral>(word: &[u8]) -> Option<T>
+    ensures { result ≡ T.written word.now }
+{
+    str::from_utf8(word).ok()?.parse().ok()
+}
+
+/// A number from 0 to `most`.
 pub fn unsigned(word: &[u8], most: u32) -> Option<u32>
     ensures { result ≡ unsigned_in most word.now }
 {
-    if !word.is_empty() && word[0] == b'+' {
-        return digits(after(word, 1), most);
-    }
-    digits(word, most)
+    number(word).filter(|n| *n <= most)
 }
 
-/// An unsigned number of 8 bits.
-pub fn byte(word: &[u8]) -> Option<u8>
-    ensures { result ≡ unsigned_in 255 word.now }
-{
-    let n = unsigned(word, 255)?;
-    Some(n as u8)
-}
-
-/// An unsigned number of 16 bits.
-pub fn short(word: &[u8]) -> Option<u16>
-    ensures { result ≡ unsigned_in 65535 word.now }
-{
-    let n = unsigned(word, 65535)?;
-    Some(n as u16)
-}
-
-/// A number from -low to high: digits, with one `+` or `-` in front or none.
-fn signed(word: &[u8], low: u32, high: u32) -> Option<i64>
-    ensures { result ≡ signed_in low high word.now }
-{
-    if !word.is_empty() && word[0] == b'-' {
-        let n = digits(after(word, 1), low)?;
-        return Some(-i64::from(n));
-    }
-    let n = unsigned(word, high)?;
-    Some(i64::from(n))
-}
-
-/// A signed number of 16 bits.
-pub fn signed_short(word: &[u8]) -> Option<i16>
-    ensures { result ≡ signed_in 32768 32767 word.now }
-{
-    let n = signed(word, 32768, 32767)?;
-    Some(n as i16)
-}
-
-/// A signed number of 32 bits.
-pub fn signed_long(word: &[u8]) -> Option<i32>
-    ensures { result ≡ signed_in 2147483648 2147483647 word.now }
-{
-    let n = signed(word, 2147483648, 2147483647)?;
-    Some(n as i32)
+/// A time as it is written, N or N/D.
+#[derive(Clone, Copy, PartialEq, Eq, Debug)]
+pub struct TimeText {
+    pub n: u32,
+    pub d: u16,
 }
 
 /// A time N or N/D; N is N/1.
-pub fn time(word: &[u8]) -> Option<(u32, u16)>
+pub fn time(word: &[u8]) -> Option<TimeText>
     ensures { result ≡ time_in word.now }
 {
-    let k = find(word, b'/');
-    if k < word.len() {
-        let n = unsigned(&word[0..k], u32::MAX)?;
-        let d = short(after(word, k + 1))?;
-        return Some((n, d));
+    match split_once(word, b'/') {
+        Some((n, d)) => Some(TimeText {
+            n: number(n)?,
+            d: number(d)?,
+        }),
+        None => Some(TimeText {
+            n: number(word)?,
+            d: 1,
+        }),
     }
-    let n = unsigned(word, u32::MAX)?;
-    Some((n, 1))
 }

@@ -1,37 +1,23 @@
 //! Answers of commands that move the clock, and of `room` and `cues`.
 ghost use Rattle.std.specs.Prelude.{◌≡◌, ◌++◌, string_bytes, codes, decimal, OnOk};
 ghost use Rattle.times.specs.Of.{time_of};
-ghost use Rattle.console_write.specs.Texts.{fraction_text};
+ghost use Rattle.times.specs.Texts.{fraction_text};
 
-use crate::put_time;
 use std::fmt;
 use times::Time;
 
 /// `WORD: quiet TIME`.
 pub fn quiet(out: &mut String, word: &str, time: Time) -> fmt::Result
-    ensures { OnOk result (string_bytes out.new ≡ string_bytes out.old ++ (word.now ++ codes ": quiet ") ++ fraction_text (time_of time) ++ codes "\n") }
+    ensures { OnOk result (string_bytes out.new ≡ string_bytes out.old ++ (word.now ++ (codes ": quiet " ++ (fraction_text (time_of time) ++ codes "\n")))) }
 {
-    write!(out, "{word}: quiet ")?;
-    put_time(out, time)?;
-    Ok(write!(out, "\n")?)
-}
-
-/// `set: due S to `.
-fn due_from(out: &mut String, from: Time) -> fmt::Result
-    ensures { OnOk result (string_bytes out.new ≡ string_bytes out.old ++ codes "set: due " ++ fraction_text (time_of from) ++ codes " to ") }
-{
-    write!(out, "set: due ")?;
-    put_time(out, from)?;
-    Ok(write!(out, " to ")?)
+    Ok(write!(out, "{word}: quiet {time}\n")?)
 }
 
 /// `set: due S to G`.
 pub fn due(out: &mut String, from: Time, to: Time) -> fmt::Result
-    ensures { OnOk result (string_bytes out.new ≡ string_bytes out.old ++ codes "set: due " ++ fraction_text (time_of from) ++ codes " to " ++ fraction_text (time_of to) ++ codes "\n") }
+    ensures { OnOk result (string_bytes out.new ≡ string_bytes out.old ++ (codes "set: due " ++ (fraction_text (time_of from) ++ (codes " to " ++ (fraction_text (time_of to) ++ codes "\n"))))) }
 {
-    due_from(out, from)?;
-    put_time(out, to)?;
-    Ok(write!(out, "\n")?)
+    Ok(write!(out, "set: due {from} to {to}\n")?)
 }
 
 /// `room: SLIP PAGE LIST`.

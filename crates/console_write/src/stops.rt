@@ -1,27 +1,17 @@
 //! Answers of commands that are not carried out.
 ghost use Rattle.std.specs.Prelude.{◌≡◌, ◌++◌, string_bytes, codes, decimal, OnOk};
-ghost use Rattle.console_write.specs.Texts.{stop_text, yes_text};
+ghost use Rattle.std.specs.Fmt.{AppendsText};
+ghost use Rattle.console_write.specs.Texts.{said_after, yes_text};
 
-use console_read::Stop;
+use crate::values::YesNo;
 use std::fmt;
+use std::fmt::Display;
 
 /// `WORD: TEXT`.
-pub fn said(out: &mut String, word: &str, text: &str) -> fmt::Result
-    ensures { OnOk result (string_bytes out.new ≡ string_bytes out.old ++ (word.now ++ (codes ": " ++ (text.now ++ codes "\n")))) }
+pub fn said<W: Display + Drop, T: Display + Drop>(out: &mut String, word: W, text: T) -> fmt::Result
+    ensures { OnOk result (AppendsText (string_bytes out.old) (string_bytes out.new) (said_after (W.output word) (T.output text))) }
 {
     Ok(write!(out, "{word}: {text}\n")?)
-}
-
-/// Why a command is not carried out.
-pub fn stop_words(stop: Stop) -> &'static str
-    ensures { result.now ≡ stop_text stop }
-{
-    match stop {
-        Stop::NotOpen => "not open",
-        Stop::AlreadyOpen => "already open",
-        Stop::ClockIsQuiet => "clock is quiet",
-        Stop::ClockIsDue => "clock is due",
-    }
 }
 
 /// `WORD: refused R`.
@@ -35,8 +25,5 @@ pub fn refused(out: &mut String, word: &str, number: u8) -> fmt::Result
 pub fn yes_no(out: &mut String, word: &str, yes: bool) -> fmt::Result
     ensures { OnOk result (string_bytes out.new ≡ string_bytes out.old ++ (word.now ++ (codes ": " ++ (yes_text yes ++ codes "\n")))) }
 {
-    if yes {
-        return said(out, word, "yes");
-    }
-    said(out, word, "no")
+    said(out, word, YesNo(yes))
 }

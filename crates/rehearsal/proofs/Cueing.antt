@@ -28,9 +28,6 @@ loaded_more b c k q r s o t er et ek eo es =
     ∙ loaded_suc b c q
     ∙ ap (λ (x : ℕ). loaded b x q) (sym (add-one c))
 
-pub loaded_all : (b : Book) (c : ℕ) (q r : Queue) → r ≡ loaded b c q → c ≡ 64 → r ≡ loaded b 64 q
-loaded_all b c q r er ec = er ∙ ap (λ (x : ℕ). loaded b x q) ec
-
 cues_suc : (n : ℕ) (b : Book) (q : Queue) → cues_in (suc n) b q ≡ and_so_on (cue_told (soonest q)) (cues_in n b (cue_left b q (soonest q)))
 unfolding cues_in
 cues_suc n b q = refl

@@ -1,6 +1,6 @@
 -- Legs added one after another.
-use Rattle.std.proofs.Common.{◌≡◌, ℕ, ◌+◌, ◌<◌, ◌≤◌, List, length, get_or, drop, sym, ap, ◌∙◌}
-use Rattle.std.proofs.lemmas.List.{at_drop_more, at_drop_all}
+use Rattle.std.proofs.Common.{◌≡◌, ℕ, ◌+◌, ◌<◌, List, length, get_or, drop, sym, ap, ◌∙◌}
+use Rattle.std.proofs.lemmas.List.{at_drop_more}
 use Rattle.rules.specs.Plans.{Leg as FlightLeg, Plan as FlightPlan}
 use Rattle.plans.specs.Of.{pushed}
 use Rattle.console_read.specs.declared.command.LegText.{LegText}
@@ -14,5 +14,5 @@ legs_more ls i d p p' w l h inv el ep =
     ∙ sym (at_drop_more (λ (xs : List LegText). with_legs xs p) ls i d h)
     ∙ inv
 
-pub legs_all : (ls : List LegText) (i : ℕ) (p w : FlightPlan) → length ls ≤ i → with_legs (drop i ls) p ≡ w → p ≡ w
-legs_all ls i p w h inv = sym (at_drop_all (λ (xs : List LegText). with_legs xs p) ls i h) ∙ inv
+pub legs_first : (ls ms : List LegText) (p q : FlightPlan) → ls ≡ ms → p ≡ q → with_legs (drop 0 ls) p ≡ with_legs ms q
+legs_first ls ms p q el ep = ap (λ (x : List LegText). with_legs x p) el ∙ ap (λ (x : FlightPlan). with_legs ms x) ep

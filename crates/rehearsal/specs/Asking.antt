@@ -11,6 +11,10 @@ use Rattle.books.specs.Told.{leg_answer}
 abbrev pub opening_refusal : ℕ → Bool → Option Refusal
 opening_refusal scale empty = cond (nat_lt 8 scale) (Some Scale) (cond empty None (Some QueueHolds))
 
+abbrev pub refused_by : Option Refusal → Result (Unit {0}) Refusal
+refused_by None = Ok tt
+refused_by (Some e) = Err e
+
 abbrev pub leg_when : Book → ℕ → Result Fraction ℕ → Result ((Axis → Line) × Option ℕ) ℕ
 leg_when b c (Ok t) = leg_answer b c t
 leg_when b c (Err e) = Err e

@@ -3,3 +3,4 @@ pub mod Cues
 pub mod Filings
 pub mod Reading
 pub mod Texts
+pub mod Sheets

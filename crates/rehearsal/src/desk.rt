@@ -4,17 +4,19 @@ ghost use Rattle.books.specs.Told.{filing as filing_of, seating, leg_told};
 ghost use Rattle.rules.specs.Books.{changed};
 ghost use Rattle.queues.specs.Meanings.{soonest, is_nothing};
 ghost use Rattle.rehearsal.specs.Filings.{typed_plan};
-ghost use Rattle.rehearsal.specs.Asking.{opening_refusal, leg_typed};
+ghost use Rattle.rehearsal.specs.Asking.{opening_refusal, refused_by, leg_typed};
 
 use crate::cues::{Cue, cue_sheet};
 use crate::filing::plan;
 use crate::reading::read;
 use crate::telling;
 use books::FlightBook;
-use console_read::{Command, Filing, Parsed, State, stopped, word_of};
+use console_read::{Clock, Command, Filing, Unreadable, stopped};
+use console_text::TimeText;
 use console_write::cannot_read;
 use console_write::clock::room;
-use console_write::stops::{said, stop_words};
+use console_write::stops::said;
+use fleet::Craft;
 use plans::LegAnswer;
 use queues::EventQueue;
 use std::alloc::Global;
@@ -29,30 +31,24 @@ pub struct Desk<B: FlightBook, Q: EventQueue> {
     sheet: Vec<Cue>,
 }
 
-/// Why no console opens: the book's scale is above 8, or the queue holds something.
-pub fn opening_refusal<B: FlightBook, Q: EventQueue>(book: &B, queue: &Q) -> Option<Refusal>
-    ensures { result ≡ opening_refusal (B.meaning book.now).scale (is_nothing (soonest (Q.holds queue.now))) }
+/// Whether a console opens; refused where the book's scale is above 8, or the queue holds something.
+pub fn may_open<B: FlightBook, Q: EventQueue>(book: &B, queue: &Q) -> Result<(), Refusal>
+    ensures { result ≡ refused_by (opening_refusal (B.meaning book.now).scale (is_nothing (soonest (Q.holds queue.now)))) }
 {
     if book.scale() > 8 {
-        return Some(Refusal::Scale);
+        return Err(Refusal::Scale);
     }
     if !queue.is_empty() {
-        return Some(Refusal::QueueHolds);
+        return Err(Refusal::QueueHolds);
     }
-    None
+    Ok(())
 }
 
 /// The leg question as it is typed: the craft is looked at first, then the time.
-fn leg_asked<B: FlightBook>(book: &B, craft: u8, n: u32, d: u16) -> Result<LegAnswer, Refusal>
-    ensures { leg_told result ≡ leg_typed (B.meaning book.now) craft n d }
+fn leg_asked<B: FlightBook>(book: &B, craft: u8, time: TimeText) -> Result<LegAnswer, Refusal>
+    ensures { leg_told result ≡ leg_typed (B.meaning book.now) craft time.n time.d }
 {
-    if craft >= 64 {
-        return Err(Refusal::CraftRange);
-    }
-    match Time::new(n, d) {
-        Ok(t) => book.leg(craft, t),
-        Err(refusal) => Err(refusal),
-    }
+    book.leg(Craft::new(craft)?.number, Time::new(time.n, time.d)?)
 }
 
 impl<B: FlightBook, Q: EventQueue> Desk<B, Q> {
@@ -91,10 +87,7 @@ impl<B: FlightBook, Q: EventQueue> Desk<B, Q> {
                 level,
                 carrier,
             } => self.ride(*craft, *level, *carrier, out),
-            Command::Leg { craft, n, d } => telling::leg(
-                out,
-                leg_asked(&self.book, *craft, *n, *d),
-            ),
+            Command::Leg { craft, time } => telling::leg(out, leg_asked(&self.book, *craft, *time)),
             Command::Follows { d, c } => telling::follows(
                 out,
                 "follows",
@@ -107,18 +100,18 @@ impl<B: FlightBook, Q: EventQueue> Desk<B, Q> {
 
     /// Answers a command.
     fn answer(&mut self, command: &Command, out: &mut String) -> fmt::Result {
-        match stopped(command, State::Quiet) {
-            Some(stop) => said(out, word_of(command), stop_words(stop)),
-            None => self.work(command, out),
+        match stopped(command, Some(Clock::Quiet)) {
+            Ok(()) => self.work(command, out),
+            Err(stop) => said(out, command.keyword(), stop),
         }
     }
 
     /// Answers line number k.
     pub fn line(&mut self, line: &[u8], k: u64, out: &mut String) -> fmt::Result {
         match read(line) {
-            Parsed::Blank => Ok(()),
-            Parsed::Unreadable => cannot_read(out, k),
-            Parsed::Ready(command) => self.answer(&command, out),
+            Ok(None) => Ok(()),
+            Ok(Some(command)) => self.answer(&command, out),
+            Err(Unreadable) => cannot_read(out, k),
         }
     }
 }

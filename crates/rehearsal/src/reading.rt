@@ -3,7 +3,7 @@ ghost use Rattle.std.specs.Prelude.{◌≡◌};
 ghost use Rattle.console_read.specs.Parsing.{parsed_of};
 ghost use Rattle.rehearsal.specs.Reading.{hall_work, heard_of};
 
-use console_read::{Command, Parsed, parse};
+use console_read::{Command, Unreadable, parse};
 
 /// Whether a command needs the hall, with its boxes and clock. This console has none.
 fn needs_hall(command: &Command) -> bool
@@ -18,12 +18,11 @@ fn needs_hall(command: &Command) -> bool
 }
 
 /// Reads a line, given without its end. The hall's commands cannot be read.
-pub fn read(line: &[u8]) -> Parsed
+pub fn read(line: &[u8]) -> Result<Option<Command>, Unreadable>
     ensures { result ≡ heard_of (parsed_of line.now) }
 {
-    let parsed = parse(line);
-    match parsed {
-        Parsed::Ready(command) if needs_hall(&command) => Parsed::Unreadable,
-        _ => parsed,
+    match parse(line)? {
+        Some(command) if needs_hall(&command) => Err(Unreadable),
+        command => Ok(command),
     }
 }

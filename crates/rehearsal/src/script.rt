@@ -1,179 +1,123 @@
 //! A whole script.
-use crate::desk::{Desk, opening_refusal};
+use crate::desk::{Desk, may_open};
 use crate::reading::read;
-use crate::telling::change;
 use books::{FlightBook, PlanBook};
 use calendar_queue::CalendarQueue;
-use console_read::{Book, Command, Parsed, Queue, State, stopped, word_of};
+use console_read::{Book, Command, Queue, Unreadable, stopped};
 use console_text::Lines;
 use console_write::cannot_read;
 use console_write::clock::room;
-use console_write::stops::{said, stop_words};
+use console_write::stops::{refused, said};
 use heap_queue::HeapQueue;
 use queues::EventQueue;
 use riding::Riding;
 use std::alloc::Global;
 use std::fmt;
+use std::iter::Zip;
+use std::ops::RangeFrom;
 
-/// The lines that are left, and how many there were so far. There are no more lines than bytes.
+/// A script as it is answered: the lines that are left, each with its number, and the answers so far.
 #[derive(Drop)]
-struct Tape<'a> {
-    lines: Lines<'a>,
-    number: usize,
-    most: usize,
+struct Script<'a> {
+    lines: Zip<RangeFrom<u64>, Lines<'a>>,
+    heap: Global,
+    out: &'a mut String,
 }
 
-impl<'a> Tape<'a> {
-    fn new(input: &'a [u8]) -> Tape<'a> {
-        Tape {
-            lines: Lines::new(input),
-            number: 0,
-            most: input.len(),
+impl Script<'_> {
+    /// Answers a command before the console is open, but for an opening.
+    fn closed(&mut self, command: &Command) -> fmt::Result {
+        if let Err(stop) = stopped(command, None) {
+            return said(self.out, command.keyword(), stop);
+        }
+        match command {
+            Command::Room { slip, page, list } => room(self.out, *slip, *page, *list),
+            _ => Ok(()),
         }
     }
 
-    /// The next line, which is then counted.
-    fn next(&mut self) -> Option<&'a [u8]> {
-        if self.number >= self.most {
-            return None;
+    /// Answers the lines that are left, on an open console.
+    fn rest<B: FlightBook, Q: EventQueue>(&mut self, desk: &mut Desk<B, Q>) -> fmt::Result {
+        for (k, line) in self.lines.by_ref() {
+            desk.line(line, k, self.out)?;
         }
-        self.number += 1;
-        self.lines.next()
+        Ok(())
     }
-}
 
-/// What a console is to open over.
-#[derive(Clone, Copy)]
-struct Opening {
-    book: Book,
-    layers: u8,
-    queue: Queue,
-}
-
-/// Answers a command before the console is open; an opening is handed back.
-fn closed(command: &Command, out: &mut String) -> Result<Option<Opening>, fmt::Error> {
-    if let Some(stop) = stopped(command, State::Closed) {
-        said(out, word_of(command), stop_words(stop))?;
-        return Ok(None);
-    }
-    match command {
-        Command::Room { slip, page, list } => room(out, *slip, *page, *list)?,
-        Command::Open {
-            book,
-            layers,
-            queue,
-        } => return Ok(Some(Opening {
-            book: *book,
-            layers: *layers,
-            queue: *queue,
-        })),
-        _ => {}
-    }
-    Ok(None)
-}
-
-/// Answers line number k before the console is open; an opening is handed back.
-fn closed_line(line: &[u8], k: u64, out: &mut String) -> Result<Option<Opening>, fmt::Error> {
-    match read(line) {
-        Parsed::Blank => Ok(None),
-        Parsed::Unreadable => {
-            cannot_read(out, k)?;
-            Ok(None)
+    /// Opens over a book and a queue, and answers the lines that are left, unless the opening is refused.
+    fn over<B: FlightBook + Drop, Q: EventQueue + Drop>(
+        &mut self,
+        book: B,
+        queue: Q,
+    ) -> fmt::Result {
+        if let Err(refusal) = may_open(&book, &queue) {
+            return refused(self.out, "open", u8::from(refusal));
         }
-        Parsed::Ready(command) => closed(&command, out),
+        said(self.out, "open", "ready")?;
+        self.rest(&mut Desk::new(book, queue, self.heap))
     }
-}
 
-/// Answers the lines that are left, on an open console.
-fn rest<B: FlightBook + Drop, Q: EventQueue + Drop>(
-    desk: &mut Desk<B, Q>,
-    tape: &mut Tape,
-    out: &mut String,
-) -> fmt::Result {
-    for _ in 0..tape.most {
-        let Some(line) = tape.next() else {
-            return Ok(());
+    /// Opens over a book, with the queue that is asked for.
+    fn on_book<B: FlightBook + Drop>(&mut self, book: B, queue: Queue) -> fmt::Result {
+        match queue {
+            Queue::Heap => self.over(book, HeapQueue::new()),
+            Queue::Calendar => self.over(book, CalendarQueue::new()),
+        }
+    }
+
+    /// Opens over a book of plans, with the layers and the queue that are asked for.
+    // No plainer as a loop or a recursion: each layer makes a book of another type.
+    fn layered(&mut self, book: PlanBook, layers: u8, queue: Queue) -> fmt::Result {
+        match layers {
+            0 => self.on_book(book, queue),
+            1 => self.on_book(Riding::over(book), queue),
+            2 => self.on_book(Riding::over(Riding::over(book)), queue),
+            3 => self.on_book(Riding::over(Riding::over(Riding::over(book))), queue),
+            _ => self.on_book(
+                Riding::over(Riding::over(Riding::over(Riding::over(book)))),
+                queue,
+            ),
+        }
+    }
+
+    /// Opens as it is asked for.
+    fn open(&mut self, book: Book, layers: u8, queue: Queue) -> fmt::Result {
+        let book = match book {
+            Book::Single => PlanBook::single_leg(),
+            Book::Itinerary => PlanBook::itinerary(),
         };
-        desk.line(line, tape.number as u64, out)?;
+        self.layered(book, layers, queue)
     }
-    Ok(())
-}
 
-/// Opens over a book and a queue, and answers the lines that are left, unless the opening is refused.
-fn over<B: FlightBook + Drop, Q: EventQueue + Drop>(
-    book: B,
-    queue: Q,
-    tape: &mut Tape,
-    heap: Global,
-    out: &mut String,
-) -> fmt::Result {
-    if let Some(refusal) = opening_refusal(&book, &queue) {
-        return change(out, "open", Err(refusal));
-    }
-    said(out, "open", "ready")?;
-    let mut desk = Desk::new(book, queue, heap);
-    rest(&mut desk, tape, out)
-}
-
-/// Opens over a book, with the queue that is asked for.
-fn on_book<B: FlightBook + Drop>(
-    book: B,
-    queue: Queue,
-    tape: &mut Tape,
-    heap: Global,
-    out: &mut String,
-) -> fmt::Result {
-    match queue {
-        Queue::Heap => over(book, HeapQueue::new(), tape, heap, out),
-        Queue::Calendar => over(book, CalendarQueue::new(), tape, heap, out),
-    }
-}
-
-/// Opens over a book of plans, with the layers and the queue that are asked for.
-fn layered(
-    book: PlanBook,
-    opening: Opening,
-    tape: &mut Tape,
-    heap: Global,
-    out: &mut String,
-) -> fmt::Result {
-    let queue = opening.queue;
-    if opening.layers == 0 {
-        return on_book(book, queue, tape, heap, out);
-    }
-    let one = Riding::over(book);
-    if opening.layers == 1 {
-        return on_book(one, queue, tape, heap, out);
-    }
-    let two = Riding::over(one);
-    if opening.layers == 2 {
-        return on_book(two, queue, tape, heap, out);
-    }
-    let three = Riding::over(two);
-    if opening.layers == 3 {
-        return on_book(three, queue, tape, heap, out);
-    }
-    on_book(Riding::over(three), queue, tape, heap, out)
-}
-
-/// Opens as it is asked for.
-fn open(opening: Opening, tape: &mut Tape, heap: Global, out: &mut String) -> fmt::Result {
-    match opening.book {
-        Book::Single => layered(PlanBook::single_leg(), opening, tape, heap, out),
-        Book::Itinerary => layered(PlanBook::itinerary(), opening, tape, heap, out),
+    /// Answers line number k before the console is open.
+    fn line(&mut self, line: &[u8], k: u64) -> fmt::Result {
+        match read(line) {
+            Ok(None) => Ok(()),
+            Ok(
+                Some(
+                    Command::Open {
+                        book,
+                        layers,
+                        queue,
+                    },
+                ),
+            ) => self.open(book, layers, queue),
+            Ok(Some(command)) => self.closed(&command),
+            Err(Unreadable) => cannot_read(self.out, k),
+        }
     }
 }
 
 /// Answers a script: appends the answer of each line. An opening that is not refused answers all the lines after it.
 pub fn rehearse(input: &[u8], heap: Global, out: &mut String) -> fmt::Result {
-    let mut tape = Tape::new(input);
-    for _ in 0..input.len() {
-        let Some(line) = tape.next() else {
+    let lines = (1..).zip(Lines::new(input));
+    let mut script = Script { lines, heap, out };
+    // No plainer as a `for` over the lines: an opening takes those that are left. There are no more lines than bytes.
+    for _ in input {
+        let Some((k, line)) = script.lines.next() else {
             return Ok(());
         };
-        if let Some(opening) = closed_line(line, tape.number as u64, out)? {
-            open(opening, &mut tape, heap, out)?;
-        }
+        script.line(line, k)?;
     }
     Ok(())
 }
