@@ -8,6 +8,7 @@ mod changes;
 mod grants;
 mod legs;
 mod questions;
+mod steps;
 
 /// What moves of certificates read and change: the flight book, the event queue and the tables.
 #[derive(Drop)]

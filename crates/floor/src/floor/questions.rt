@@ -1,20 +1,20 @@
 //! Making a floor, and asking it.
-ghost use Rattle.std.specs.Prelude.{◌≡◌, ◌<◌, ◌≤◌, MatchOption};
+ghost use Rattle.std.specs.Prelude.{◌≡◌, ◌<◌};
 ghost use Rattle.rules.specs.Slots.{slot};
-ghost use Rattle.geometry.specs.Of.{axis_of};
+ghost use Rattle.fleet.specs.Axes.{axis_of};
 ghost use Rattle.times.specs.Of.{time_of};
-ghost use Rattle.queues.specs.Meanings.{first_told};
+ghost use Rattle.slots.specs.Numbers.{number_in, number_told};
 ghost use Rattle.books.specs.Told.{leg_told, leg_answer, follow_told, follow_answer};
 ghost use Rattle.tables.specs.Tables.{empty};
 ghost use Rattle.model.specs.Halls.{in_hall, together, left, certificate_in, next_due};
-ghost use Rattle.floor.specs.Of.{joined, hall_of, certificate_told};
+ghost use Rattle.floor.specs.Of.{joined, hall_of, certificate_told, due_told};
 
 use crate::floor::Floor;
 use books::FlightBook;
-use geometry::Axis;
+use fleet::{Axis, Craft};
 use plans::LegAnswer;
-use queues::EventQueue;
-use slots::{not_after, slot_of};
+use queues::{Entry, EventQueue, Slot};
+use slots::{BitSlot, Number, not_after};
 use tables::Tables;
 use times::{Moment, Refusal, Time};
 
@@ -31,67 +31,58 @@ impl<B: FlightBook, Q: EventQueue> Floor<B, Q> {
     }
 
     /// Whether a craft is entered.
-    pub fn is_entered(&self, c: u8) -> bool
-        requires { c < 64 }
-        ensures { result ≡ in_hall (hall_of B.meaning Q.holds self.now) c }
+    pub fn is_entered(&self, c: Craft) -> bool
+        ensures { result ≡ in_hall (hall_of B.meaning Q.holds self.now) c.number }
     {
-        self.tables.is_entered(c as usize)
+        self.tables.is_entered(c)
     }
 
     /// How many numbers are left.
     pub fn left(&self) -> u32
         ensures { result ≡ left (hall_of B.meaning Q.holds self.now) }
     {
-        20000000 - self.tables.last()
+        20000000 - self.tables.last().value
     }
 
     /// The bit of two craft on an axis.
-    pub fn bit(&self, axis: Axis, c: u8, d: u8) -> bool
-        requires c { c < 64 }
-        requires d { d < 64 }
-        ensures { result ≡ (hall_of B.meaning Q.holds self.now).bit (slot (axis_of axis) c d) }
+    pub fn bit(&self, axis: Axis, c: Craft, d: Craft) -> bool
+        ensures { result ≡ (hall_of B.meaning Q.holds self.now).bit (slot (axis_of axis) c.number d.number) }
     {
-        self.tables.bit(slot_of(axis, c, d) as usize)
+        self.tables.bit(BitSlot::of(axis, c, d))
     }
 
     /// Whether two craft overlap by their bits: all three are set.
-    pub fn together(&self, c: u8, d: u8) -> bool
-        requires c { c < 64 }
-        requires d { d < 64 }
-        ensures { result ≡ together c d (hall_of B.meaning Q.holds self.now) }
+    pub fn together(&self, c: Craft, d: Craft) -> bool
+        ensures { result ≡ together c.number d.number (hall_of B.meaning Q.holds self.now) }
     {
         self.bit(Axis::X, c, d) && self.bit(Axis::Y, c, d) && self.bit(Axis::Z, c, d)
     }
 
-    /// The number of the certificate that stands in a slot, or 0.
-    pub fn number(&self, slot: u16) -> u32
-        requires { slot < 12352 }
-        ensures { result ≡ (hall_of B.meaning Q.holds self.now).number slot }
+    /// The number of the certificate that stands in a slot, or none.
+    pub fn number(&self, slot: Slot) -> Option<Number>
+        ensures { number_told result ≡ number_in ((hall_of B.meaning Q.holds self.now).number slot.number) }
     {
-        self.tables.number(slot as usize)
+        self.tables.number(slot)
     }
 
     /// The certificate that stands in a slot: its number, and the moment at which it fails, or never; or none.
-    pub fn certificate(&self, slot: u16) -> Option<(u32, Option<Moment>)>
-        requires { slot < 12352 }
-        ensures { certificate_told result ≡ certificate_in slot (hall_of B.meaning Q.holds self.now) }
+    pub fn certificate(&self, slot: Slot) -> Option<(u32, Option<Moment>)>
+        ensures { certificate_told result ≡ certificate_in slot.number (hall_of B.meaning Q.holds self.now) }
     {
-        let number = self.number(slot);
-        if number == 0 {
-            return None;
-        }
-        let Ok(moment) = self.queue.moment(slot) else {
-            return None;
-        };
-        Some((number, moment))
+        let number = self.number(slot)?;
+        let moment = self.queue.moment(slot.number).ok()?;
+        Some((number.value, moment))
     }
 
     /// The slot that is due first with its moment, where that is not after the goal itself.
-    pub fn due(&self, goal: Time) -> Option<(u16, Moment)>
-        ensures value { first_told result ≡ next_due (time_of goal) (hall_of B.meaning Q.holds self.now) }
-        ensures below { MatchOption result (0 ≤ 0) (λ f. f.0 < 12352) }
+    pub fn due(&self, goal: Time) -> Option<Entry>
+        ensures { due_told result ≡ next_due (time_of goal) (hall_of B.meaning Q.holds self.now) }
     {
-        not_after(goal, self.queue.first())
+        let (number, moment) = not_after(goal, self.queue.first())?;
+        Some(Entry {
+            slot: Slot { number },
+            moment,
+        })
     }
 
     /// The leg of a craft's path at a time, and the path's first break after it, as the book tells them.

@@ -1,68 +1,60 @@
-//! What the tables tell. These are public for the crate above, which keeps its indices in range.
-ghost use Rattle.std.specs.Prelude.{◌≡◌, ◌<◌, ◌≤◌, true, is_some};
+//! What the tables tell.
+ghost use Rattle.std.specs.Prelude.{◌≡◌, is_some};
 ghost use Rattle.rules.specs.Basics.{the};
 ghost use Rattle.model.specs.Moves.{nobody};
-ghost use Rattle.tables.specs.Crafts.{record_of, record_in, sized, Sized};
+ghost use Rattle.slots.specs.Numbers.{number_in, number_told};
+ghost use Rattle.tables.specs.Crafts.{record_of, record_in};
 ghost use Rattle.tables.specs.Of.{table};
 
 use crate::craft::CraftRecord;
 use crate::tables::Tables;
+use fleet::Craft;
+use queues::Slot;
+use slots::{BitSlot, Number};
 
 impl Tables {
     /// The record of a craft, where it is entered.
-    pub fn craft_at(&self, c: usize) -> Option<CraftRecord>
-        requires { c < 64 }
-        ensures value { record_in result ≡ (table self.now).craft c }
-        ensures sized { Sized result }
+    pub fn craft_at(&self, c: Craft) -> Option<CraftRecord>
+        ensures { record_in result ≡ (table self.now).craft c.number }
     {
-        self.craft[c]
+        self.craft[c.place()]
     }
 
     /// Whether a craft is entered.
-    pub fn is_entered(&self, c: usize) -> bool
-        requires { c < 64 }
-        ensures { result ≡ is_some ((table self.now).craft c) }
+    pub fn is_entered(&self, c: Craft) -> bool
+        ensures { result ≡ is_some ((table self.now).craft c.number) }
     {
-        match self.craft[c] {
-            Some(_) => true,
-            None => false,
-        }
+        self.craft_at(c).is_some()
     }
 
     /// The record of a craft; of one that is not entered it does not matter.
-    pub fn record(&self, c: usize) -> CraftRecord
-        requires { c < 64 }
-        ensures value { record_of result ≡ the nobody ((table self.now).craft c) }
-        ensures sized { sized result ≡ true }
+    pub fn record(&self, c: Craft) -> CraftRecord
+        ensures { record_of result ≡ the nobody ((table self.now).craft c.number) }
     {
-        match self.craft_at(c) {
-            Some(craft) => craft,
-            None => CraftRecord::nobody(),
-        }
+        self.craft_at(c).unwrap_or(CraftRecord::nobody())
     }
 
     /// The bit of a slot.
-    pub fn bit(&self, slot: usize) -> bool
-        requires { slot < 12288 }
-        ensures { result ≡ (table self.now).bit slot }
+    pub fn bit(&self, slot: BitSlot) -> bool
+        ensures { result ≡ (table self.now).bit slot.number }
     {
-        self.bits[slot]
+        self.bits[slot.place()]
     }
 
-    /// The number of the certificate that stands in a slot, or 0.
-    pub fn number(&self, slot: usize) -> u32
-        requires { slot < 12352 }
-        ensures value { result ≡ (table self.now).number slot }
-        ensures few { result ≤ 20000000 }
+    /// The number of the certificate that stands in a slot, or none.
+    pub fn number(&self, slot: Slot) -> Option<Number>
+        ensures { number_told result ≡ number_in ((table self.now).number slot.number) }
     {
-        self.numbers[slot]
+        match self.numbers[slot.place()] {
+            0 => None,
+            value => Some(Number { value }),
+        }
     }
 
-    /// The last number granted.
-    pub fn last(&self) -> u32
-        ensures value { result ≡ (table self.now).last }
-        ensures few { result ≤ 20000000 }
+    /// The last number granted, or 0.
+    pub fn last(&self) -> Number
+        ensures { result.value ≡ (table self.now).last }
     {
-        self.last
+        Number { value: self.last }
     }
 }

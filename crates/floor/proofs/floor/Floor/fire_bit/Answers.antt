@@ -3,5 +3,4 @@ use Rattle.floor.proofs.Granting.{bit_fired}
 use Rattle.floor.proofs.floor.Floor.fire_bit.Goals as goal
 
 pub returns : goal.returns
-returns g c =
-    bit_fired _ _ _ _ c.args.slot (moment_of c.args.k) _ _ _ _ _ _ _ _ _ c.bit-bit.ensures c.set_bit.ensures c.axis_at.ensures c.lower_at.ensures.value c.higher_at.ensures.value c.grant_bit.ensures
+returns g c = record { wrote = bit_fired _ _ _ _ c.args.slot.number (moment_of c.args.k) _ _ _ _ _ _ _ _ _ c.bit-bit.ensures c.set_bit.ensures c.axis.ensures c.lower.ensures c.higher.ensures c.grant_bit.ensures.wrote; same = c.grant_bit.ensures.same }

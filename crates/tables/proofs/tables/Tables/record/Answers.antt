@@ -1,10 +1,9 @@
-use Rattle.std.proofs.Common.{refl, ap, ◌∙◌}
+use Rattle.std.proofs.Common.{ap, ◌∙◌}
 use Rattle.rules.specs.Basics.{the}
 use Rattle.model.specs.Moves.{nobody}
+use Rattle.tables.specs.Crafts.{record_of}
+use Rattle.tables.proofs.Places.{record_or}
 use Rattle.tables.proofs.tables.Tables.record.Goals as goal
 
-pub returns-in-Some : goal.returns-in-Some
-returns-in-Some c = record { value = ap (the nobody) c.in-Some.ensures.value; sized = c.in-Some.ensures.sized _ refl }
-
-pub returns-in-None : goal.returns-in-None
-returns-in-None c = record { value = c.nobody.ensures.value ∙ ap (the nobody) c.in-None.ensures.value; sized = c.nobody.ensures.sized }
+pub returns : goal.returns
+returns c = ap record_of c.unwrap_or.ensures ∙ record_or _ _ c.nobody.ensures ∙ ap (the nobody) c.craft_at.ensures
