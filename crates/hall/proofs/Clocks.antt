@@ -1,38 +1,27 @@
 -- Clocks and goals.
-use Rattle.std.proofs.Common.{◌≡◌, ℕ, ◌*◌, ◌<◌, ◌≤◌, Bool, true, false, cond, not, ◌||◌, eqb, ltb, is_some, Some, None, Ok, Err, Option, Result, sym, refl, ap, ◌∙◌, subst, arith}
+use Rattle.std.proofs.Common.{◌≡◌, ℕ, ◌*◌, ◌<◌, ◌≤◌, Bool, true, false, cond, not, ◌||◌, eqb, ltb, is_lt, nat_cmp, is_some, Some, None, Ok, Err, Option, Result, sym, refl, ap, ◌∙◌, subst, arith}
 use mathlib.Core.Path.{fun_ext}
 use borrow.Author.Tests.{both_ways}
-use Rattle.std.proofs.lemmas.Bool.{ltb-true, lt-ltb, le-ltb, eqb-true, eqb-false, and_parts, or_parts, not-false}
-use Rattle.rules.specs.Fractions.{Fraction, Proper, SameTime, is_before, is_same, least, no_time, time_made}
+use Rattle.std.proofs.lemmas.Bool.{ltb-true, lt-ltb, le-ltb, eqb-false, or_parts}
+use Rattle.rules.specs.Fractions.{Fraction, Proper, SameTime, is_before, least, no_time, time_made}
 use Rattle.rules.specs.Stamps.{Stamp}
 use Rattle.rules.specs.Books.{Book}
 use Rattle.rules.specs.Slots.{Queue, first}
 use Rattle.rules.proofs.Order.{not_after_before}
 use Rattle.rules.proofs.Made.{least_right}
 use Rattle.times.specs.declared.time.Time.{Time}
-use Rattle.times.specs.declared.moment.Moment.{Moment}
 use Rattle.times.specs.Of.{time_of}
-use Rattle.queues.specs.Meanings.{soonest, is_nothing, first_told}
+use Rattle.times.specs.Orders.{time_cmp}
+use Rattle.queues.specs.Meanings.{soonest, is_nothing}
 use Rattle.queues.specs.Laws.{Held}
 use Rattle.queues.proofs.Firsts.{empty_right, soonest_first}
-use Rattle.model.specs.Halls.{Clock, quiet, due, Hall, State, opened}
-use Rattle.model.specs.Calls.{setting, resting, clock, accepted}
-use Rattle.model.specs.Halls.{next_due}
-use Rattle.model.specs.Refusals.{same_clock, not_mine, refusal, opening_refusal}
-use Rattle.hall.specs.Told.{Performed}
-use Rattle.hall.proofs.Rows.{here, later, done_performed}
+use Rattle.model.specs.Halls.{Clock, quiet, Hall, State, opened}
+use Rattle.model.specs.Calls.{setting}
+use Rattle.model.specs.Refusals.{not_mine, refusal, opening_refusal}
+use Rattle.hall.proofs.Rows.{here, later}
 use Rattle.tables.specs.Tables.{empty}
-use Rattle.floor.specs.Of.{joined}
-use Rattle.hall.specs.Of.{clock_at}
-
--- the same plain numbers
-pub same_is : (s t : Fraction) → is_same s t ≡ true → s ≡ t
-same_is s t e i = let p = and_parts _ _ e in record { num = eqb-true s.num t.num p.0 i; den = eqb-true s.den t.den p.1 i }
-
--- the hall's time is that of a quiet clock that is its own
-pub time_known : (time : Time) (goal : Option Time) (t : Fraction) → same_clock (quiet t) (clock_at time goal) ≡ true → t ≡ time_of time
-time_known time None t e = same_is t (time_of time) e
-time_known time (Some g) t e = absurd (both_ways false refl e)
+use Rattle.floor.specs.Of.{joined, due_told}
+use Rattle.queues.specs.declared.entry.Entry.{Entry}
 
 -- equal times are before the same times
 pub same_before : (r s t : Fraction) → Proper r → Proper s → SameTime r s → is_before r t ≡ is_before s t
@@ -59,7 +48,7 @@ first_some q = by (first q) ∙ ap (λ (o : Option (ℕ × Stamp)). not (is_noth
   by None = refl
   by (Some p) = refl
 
-pub told_some : (o : Option (ℕ × Moment)) → is_some o ≡ is_some (first_told o)
+pub told_some : (o : Option Entry) → is_some o ≡ is_some (due_told o)
 told_some None = refl
 told_some (Some p) = refl
 
@@ -91,31 +80,23 @@ made n d g e = by (no_time n d) refl e where
   by true p q = absurd (subst IsOk q tt)
   by false p q = record { some = p; is = ap (got g) q }
 
+-- the order of times is that of their fractions
+is_lt_of : (x y : ℕ) → is_lt (nat_cmp x y) ≡ ltb x y
+is_lt_of x y = by (ltb x y) (eqb x y) refl refl
+  where
+    by : (a b : Bool) → ltb x y ≡ a → eqb x y ≡ b → is_lt (nat_cmp x y) ≡ ltb x y
+    by true b e f = rw e refl
+    by false true e f = rw (e, f) refl
+    by false false e f = rw (e, f) refl
+
+pub before_of : (s t : Time) → is_lt (time_cmp s t) ≡ is_before (time_of s) (time_of t)
+before_of s t = is_lt_of (s.n * t.d) (t.n * s.d)
+
 pub set_past : (t : Fraction) (n d : ℕ) (z : State) (g : Fraction) → not_mine z (quiet t) ≡ false → Ok g ≡ time_made n d → is_before g t ≡ true → refusal (setting t n d) z ≡ Some 12
 set_past t n d z g e f p = let m = made n d g f in later 1 _ _ _ e (later 11 _ _ _ m.some (here 12 _ _ (goal_before n d t m.some ∙ ap (λ (x : Fraction). is_before x t) (sym m.is) ∙ p)))
 
-pub set_performed : (time : Time) (old : Option Time) (t g : Fraction) (n d : ℕ) (m : Hall) → not_mine (record { hall = m; clock = clock_at time old }) (quiet t) ≡ false → Ok g ≡ time_made n d → is_before g t ≡ false →
-    Performed (setting t n d) (record { hall = m; clock = clock_at time old }) (record { hall = m; clock = due (time_of time) g }) (accepted (clock (due t g)))
-set_performed time old t g n d m e f p =
-    let w = made n d g f in
-    let z : State = record { hall = m; clock = clock_at time old } in
-    let same = time_known time old t (not-false _ e) in
-    done_performed (setting t n d) z _ _
-    (later 1 _ _ _ e (later 11 _ _ _ w.some (later 12 _ _ None (goal_before n d t w.some ∙ ap (λ (x : Fraction). is_before x t) (sym w.is) ∙ p) refl)))
-    (λ i. record { hall = m; clock = due (sym same i) (w.is i) })
-    (λ i. accepted (clock (due t (w.is i))))
-
--- RESTING
-
-pub rest_wrong : (t g : Fraction) (z : State) → not_mine z (due t g) ≡ true → refusal (resting t g) z ≡ Some 1
-rest_wrong t g z e = here 1 _ _ e
-
-pub rest_early : (t g : Fraction) (z : State) → not_mine z (due t g) ≡ false → is_some (next_due g z.hall) ≡ true → refusal (resting t g) z ≡ Some 14
-rest_early t g z e f = later 1 _ _ _ e (here 14 _ _ f)
-
-pub rest_performed : (t g : Fraction) (z : State) → not_mine z (due t g) ≡ false → is_some (next_due g z.hall) ≡ false →
-    Performed (resting t g) z (record { hall = z.hall; clock = quiet g }) (accepted (clock (quiet g)))
-rest_performed t g z e f = done_performed (resting t g) z _ _ (later 1 _ _ _ e (later 14 _ _ None f refl)) refl refl
+pub set_none : (t : Fraction) (n d : ℕ) (z : State) (g : Fraction) → not_mine z (quiet t) ≡ false → Ok g ≡ time_made n d → is_before g t ≡ false → refusal (setting t n d) z ≡ None
+set_none t n d z g e f p = let m = made n d g f in later 1 _ _ _ e (later 11 _ _ _ m.some (later 12 _ _ None (goal_before n d t m.some ∙ ap (λ (x : Fraction). is_before x t) (sym m.is) ∙ p) refl))
 
 -- OPENING
 

@@ -1,14 +1,13 @@
 -- After the refusals passed there is room for the lines and there are numbers enough.
-use Rattle.std.proofs.Common.{◌≡◌, ℕ, ◌<◌, ◌≤◌, Bool, true, false, cond, ltb, leb, List, [], ◌∷◌, length, None, Ok, Err, Option, Result, sym, ap, ◌∙◌, subst, arith}
-use Rattle.std.proofs.lemmas.Bool.{ltb-false, leb-false, not-false, or_parts}
+use Rattle.std.proofs.Common.{◌≡◌, ℕ, ◌≤◌, Bool, true, false, cond, ltb, List, [], ◌∷◌, length, None, Ok, Err, Result, sym, ap, subst, arith}
+use Rattle.std.proofs.lemmas.Bool.{ltb-false, leb-false}
 use Rattle.rules.specs.Fractions.{Fraction}
 use Rattle.rules.specs.Stamps.{Stamp, at}
-use Rattle.rules.specs.Books.{BookChange, book_rows, carrier_out}
-use Rattle.rules.specs.Plans.{Plan}
+use Rattle.rules.specs.Books.{BookChange, book_rows}
 use Rattle.rules.specs.Boxes.{Box, box_right}
 use Rattle.model.specs.Halls.{quiet, Hall, State, left}
 use Rattle.model.specs.Moves.{enter, leave, change}
-use Rattle.model.specs.Calls.{changing, entering, leaving, booking, filing, riding}
+use Rattle.model.specs.Calls.{changing, entering, leaving, booking}
 use Rattle.model.specs.Refusals.{not_mine, change_rows, rows, refusal}
 use Rattle.accounts.proofs.Counts.{enter_within, leave_within, change_within}
 use Rattle.accounts.proofs.Sound.{fit_none, unfit, fit_rest}
@@ -24,35 +23,22 @@ abbrev IsOk : Result Box ℕ → Type 0
 IsOk (Ok b) = Unit {0}
 IsOk (Err e) = ⊥
 
-pub record Entered (c : ℕ) (b : Box) (k : Stamp) (m : Hall) (s : List ℕ) : Type 0 where
-  pub craft : c < 64
-  pub right : box_right b ≡ true
-  pub fits : Fits (enter c b k) 0 m s
-
-pub entering_fits : (t : Fraction) (c : ℕ) (b : Box) (z : State) (s : List ℕ) → refusal (changing t (entering c b) (length s)) z ≡ None → Entered c b (at t) z.hall s
+pub entering_fits : (t : Fraction) (c : ℕ) (b : Box) (z : State) (s : List ℕ) → refusal (changing t (entering c b) (length s)) z ≡ None → Fits (enter c b (at t)) 0 z.hall s
 entering_fits t c b z s e =
     let u = unfit (rows (changing t (entering c b) (length s)) z) e in
     let low = leb-false 64 c u.1.0 in
     let room = ltb-false (length s) 190 u.1.1.1.1.0 in
     let numbers = ltb-false (left z.hall) 190 u.1.1.1.1.1.0 in
     let w = enter_within c b (at t) z.hall low in
-    record {
-      craft = low;
-      right = not-false (box_right b) u.1.1.1.0;
-      fits = record { room = omega (arith, room, w.lines); numbers = omega (arith, numbers, w.most) };
-    }
+    record { room = omega (arith, room, w.lines); numbers = omega (arith, numbers, w.most) }
 
-pub record Left (c : ℕ) (m : Hall) (s : List ℕ) : Type 0 where
-  pub craft : c < 64
-  pub fits : Fits (leave c) 0 m s
-
-pub leaving_fits : (t : Fraction) (c : ℕ) (z : State) (s : List ℕ) → z.hall.last ≤ 20000000 → refusal (changing t (leaving c) (length s)) z ≡ None → Left c z.hall s
+pub leaving_fits : (t : Fraction) (c : ℕ) (z : State) (s : List ℕ) → z.hall.last ≤ 20000000 → refusal (changing t (leaving c) (length s)) z ≡ None → Fits (leave c) 0 z.hall s
 leaving_fits t c z s few e =
     let u = unfit (rows (changing t (leaving c) (length s)) z) e in
     let low = leb-false 64 c u.1.0 in
     let room = ltb-false (length s) 190 u.1.1.1.0 in
     let w = leave_within c z.hall low in
-    record { craft = low; fits = record { room = omega (arith, room, w.lines); numbers = omega (arith, few, w.most) } }
+    record { room = omega (arith, room, w.lines); numbers = omega (arith, few, w.most) }
 
 pub booking_fits : (t : Fraction) (x : BookChange) (z : State) (s : List ℕ) → refusal (changing t (booking x) (length s)) z ≡ None → Fits (change x (at t)) 0 z.hall s
 booking_fits t x z s e =
@@ -70,26 +56,16 @@ sizes_made x y z b e = by (box_right (sizes x y z)) e where
   by true q = ap (got b) q
   by false q = absurd (subst IsOk q tt)
 
-pub never_unmade : (x y z n : ℕ) → box_right (sizes x y z) ≡ true → Err n ≡ box_made x y z → ⊥
-never_unmade x y z n p e = subst IsOk (sym (e ∙ ap (λ (t : Bool). cond {A = Result Box ℕ} t (Ok (sizes x y z)) (Err 6)) p)) tt
+-- an entering by a craft, a box and a moment that are the same
+pub fits_alike : (c c' : ℕ) (b b' : Box) (k k' : Stamp) (m : Hall) (s : List ℕ) → c' ≡ c → b' ≡ b → k' ≡ k → Fits (enter c b k) 0 m s → Fits (enter c' b' k') 0 m s
+fits_alike c c' b b' k k' m s o p q = fits_as (enter c b k) (enter c' b' k') 0 m m s (λ i. enter (sym o i) (sym p i) (sym q i) m)
 
--- an entering by a box and a moment that are the same
-pub fits_alike : (c : ℕ) (b b' : Box) (k k' : Stamp) (m : Hall) (s : List ℕ) → b' ≡ b → k' ≡ k → Fits (enter c b k) 0 m s → Fits (enter c b' k') 0 m s
-fits_alike c b b' k k' m s p q = fits_as (enter c b k) (enter c b' k') 0 m m s (λ i. enter c (sym p i) (sym q i) m)
-
-pub wrote_alike : (c : ℕ) (b b' : Box) (k k' : Stamp) (m m' : Hall) (s s' : List ℕ) (r : ℕ) → b' ≡ b → k' ≡ k → Wrote (enter c b' k') 0 m m' s s' r → Wrote (enter c b k) 0 m m' s s' r
-wrote_alike c b b' k k' m m' s s' r p q = wrote_as (enter c b k) (enter c b' k') 0 m m m' s s' r (λ i. enter c (sym p i) (sym q i) m)
+pub wrote_alike : (c c' : ℕ) (b b' : Box) (k k' : Stamp) (m m' : Hall) (s s' : List ℕ) (r : ℕ) → c' ≡ c → b' ≡ b → k' ≡ k → Wrote (enter c' b' k') 0 m m' s s' r → Wrote (enter c b k) 0 m m' s s' r
+wrote_alike c c' b b' k k' m m' s s' r o p q = wrote_as (enter c b k) (enter c' b' k') 0 m m m' s s' r (λ i. enter (sym o i) (sym p i) (sym q i) m)
 
 -- the same of a change of the book
-pub change_fits_alike : (x : BookChange) (k k' : Stamp) (m : Hall) (s : List ℕ) → k' ≡ k → Fits (change x k) 0 m s → Fits (change x k') 0 m s
-change_fits_alike x k k' m s q = fits_as (change x k) (change x k') 0 m m s (λ i. change x (sym q i) m)
+pub change_fits_alike : (x x' : BookChange) (k k' : Stamp) (m : Hall) (s : List ℕ) → x' ≡ x → k' ≡ k → Fits (change x k) 0 m s → Fits (change x' k') 0 m s
+change_fits_alike x x' k k' m s p q = fits_as (change x k) (change x' k') 0 m m s (λ i. change (sym p i) (sym q i) m)
 
-pub change_wrote_alike : (x : BookChange) (k k' : Stamp) (m m' : Hall) (s s' : List ℕ) (r : ℕ) → k' ≡ k → Wrote (change x k') 0 m m' s s' r → Wrote (change x k) 0 m m' s s' r
-change_wrote_alike x k k' m m' s s' r q = wrote_as (change x k) (change x k') 0 m m m' s s' r (λ i. change x (sym q i) m)
-
--- a craft whose plan is filed, or which takes a seat, is in range
-pub file_low : (t : Fraction) (c : ℕ) (p : Plan) (z : State) (s : List ℕ) → refusal (changing t (filing c p) (length s)) z ≡ None → c < 64
-file_low t c p z s e = let u = unfit (rows (changing t (filing c p) (length s)) z) e in leb-false 64 c u.1.0
-
-pub ride_low : (t : Fraction) (c j : ℕ) (k : Option ℕ) (z : State) (s : List ℕ) → refusal (changing t (riding c j k) (length s)) z ≡ None → c < 64
-ride_low t c j k z s e = let u = unfit (rows (changing t (riding c j k) (length s)) z) e in leb-false 64 c (or_parts (leb 64 c) (carrier_out k) u.1.0).0
+pub change_wrote_alike : (x x' : BookChange) (k k' : Stamp) (m m' : Hall) (s s' : List ℕ) (r : ℕ) → x' ≡ x → k' ≡ k → Wrote (change x' k') 0 m m' s s' r → Wrote (change x k) 0 m m' s s' r
+change_wrote_alike x x' k k' m m' s s' r p q = wrote_as (change x k) (change x' k') 0 m m m' s s' r (λ i. change (sym p i) (sym q i) m)

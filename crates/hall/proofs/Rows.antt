@@ -54,13 +54,6 @@ refused_performed call z n e = let p = at_refusal call z n e in record {
   result = sym (ap (λ (d : Done). d.answer.result) p);
 }
 
-pub refused_wrote : (call : Call) (z : State) (n : ℕ) (s : List ℕ) → refusal call z ≡ Some n → Wrote call z z (refused n) s s 0
-refused_wrote call z n s e = let p = at_refusal call z n e in record {
-  performed = refused_performed call z n e;
-  slip = sym (ap (λ (d : Done). onto d.answer.lines s) p);
-  count = sym (ap (λ (d : Done). length d.answer.lines) p);
-}
-
 -- a call that is carried out
 pub done_performed : (call : Call) (z z' : State) (r : Result) → refusal call z ≡ None → z' ≡ (carried_out call z).state → r ≡ (carried_out call z).answer.result → Performed call z z' r
 done_performed call z z' r e p q = let a = at_none call z e in record {

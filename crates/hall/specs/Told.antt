@@ -1,5 +1,5 @@
 -- What a call of the code led to and told, by what the model performs.
-use Rattle.std.specs.Prelude.{◌≡◌, ℕ, List, ◌++◌, length, drop, Some, None, Ok, Err, Option}
+use Rattle.std.specs.Prelude.{◌≡◌, ℕ, Bool, cond, List, ◌++◌, length, drop, Some, None, Ok, Err, Option}
 use Rattle.std.specs.declared.result.Result as code
 use Rattle.rules.specs.Fractions.{tick}
 use Rattle.rules.specs.Books.{Book}
@@ -16,9 +16,13 @@ use Rattle.hall.specs.declared.hall.Due.{Due}
 use Rattle.hall.specs.Of.{quiet_of, due_of, state_of}
 
 -- the number of a refusal, where there is one
-abbrev pub refused_by : Option Refusal → Option ℕ
-refused_by None = None
-refused_by (Some e) = Some (number_of e)
+abbrev pub refused_by : {A : Type 0} → code.Result A Refusal → Option ℕ
+refused_by (Ok x) = None
+refused_by (Err e) = Some (number_of e)
+
+-- one row of the table alone: its number where it fits
+abbrev pub row : ℕ → Bool → Option ℕ
+row n fits = cond fits (Some n) None
 
 -- a call led from the state z to z' and was told r
 pub record Performed (call : Call) (z z' : State) (r : Result) : Type 0 where

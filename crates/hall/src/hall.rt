@@ -9,6 +9,7 @@ mod clocks;
 mod enters;
 mod goals;
 mod questions;
+mod rows;
 mod steps;
 
 /// A hall: its floor, and its clock, which is quiet at a time, or due from a time to a goal.

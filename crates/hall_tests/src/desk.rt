@@ -8,11 +8,6 @@ use std::process::Abort;
 use std::test::Fail;
 use times::Refusal;
 
-/// A refusal that a test did not expect.
-fn unexpected(refusal: Refusal) -> Fail {
-    Fail::new(refusal.number())
-}
-
 /// A leg along x.
 pub fn along_x(start: u16, speed: i16) -> Leg {
     Leg {
@@ -41,10 +36,7 @@ pub fn there_and_back(speed: i16, turn: u16, back: i16, end: u16) -> Plan {
 
 /// The number of a refusal, or 0.
 pub fn number<T: Drop>(answer: Result<T, Refusal>) -> u8 {
-    match answer {
-        Ok(_) => 0,
-        Err(refusal) => refusal.number(),
-    }
+    answer.err().map_or(0, |refusal| u8::from(refusal))
 }
 
 /// The lines that an accepted call wrote.
@@ -54,22 +46,10 @@ pub fn wrote(
     slip: &[u32],
     lines: &[u32],
 ) -> Result<(), Fail> {
-    match answer {
-        Ok(n) => {
-            assert_eq!(rt; n, lines.len());
-            match slip.get(0..n) {
-                Some(written) => {
-                    assert!(rt; written == lines);
-                    Ok(())
-                },
-                None => {
-                    assert!(rt; false);
-                    Ok(())
-                },
-            }
-        }
-        Err(refusal) => Err(unexpected(refusal)),
-    }
+    let n = answer?;
+    assert_eq!(rt; n, lines.len());
+    assert_eq!(rt; slip.get(0..n), Some(lines));
+    Ok(())
 }
 
 /// A quiet clock set forward.
@@ -78,18 +58,12 @@ pub fn set<B: FlightBook, Q: EventQueue>(
     q: Quiet,
     tick: u32,
 ) -> Result<Due, Fail> {
-    match hall.set(q, tick, 1) {
-        Ok(due) => Ok(due),
-        Err(back) => Err(unexpected(back.1)),
-    }
+    Ok(hall.set(q, tick, 1).map_err(|back| back.1)?)
 }
 
 /// A due clock at rest.
 pub fn rest<B: FlightBook, Q: EventQueue>(hall: &mut Hall<B, Q>, due: Due) -> Result<Quiet, Fail> {
-    match hall.rest(due) {
-        Ok(q) => Ok(q),
-        Err(back) => Err(unexpected(back.1)),
-    }
+    Ok(hall.rest(due).map_err(|back| back.1)?)
 }
 
 /// On to a tick: set, run and rest.
@@ -101,10 +75,7 @@ pub fn on_to<B: FlightBook, Q: EventQueue>(
     page: &mut [u8],
 ) -> Result<(Quiet, Ran), Fail> {
     let due = set(hall, q, tick)?;
-    let (due, ran) = match hall.run(due, slip, page) {
-        Ok(run) => run,
-        Err(back) => return Err(unexpected(back.1)),
-    };
+    let (due, ran) = hall.run(due, slip, page).map_err(|back| back.1)?;
     let q = rest(hall, due)?;
     Ok((q, ran))
 }
@@ -114,8 +85,5 @@ pub fn opened<B: FlightBook + Drop, Q: EventQueue + Drop>(
     book: B,
     queue: Q,
 ) -> Result<(Hall<B, Q>, Quiet), Fail> {
-    match Hall::open(book, queue) {
-        Ok(hall) => Ok(hall),
-        Err(back) => Err(unexpected(back.2)),
-    }
+    Ok(Hall::open(book, queue).map_err(|back| back.2)?)
 }

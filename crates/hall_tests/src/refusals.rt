@@ -18,10 +18,7 @@ fn holding() -> HeapQueue {
 
 /// The refusal of an opening, or 0.
 fn refused<B: FlightBook + Drop>(book: B, queue: HeapQueue) -> u8 {
-    match Hall::open(book, queue) {
-        Ok(_) => 0,
-        Err(back) => back.2.number(),
-    }
+    number(Hall::open(book, queue).map_err(|back| back.2))
 }
 
 #[test]
@@ -96,42 +93,19 @@ fn clocks(rt: &impl Abort, slip: &mut [u32], short: &mut [u32]) -> Result<(), Fa
     let (mut hall, q) = opened(PlanBook::single_leg(), HeapQueue::new())?;
     assert_eq!(rt; number(hall.file(&q, 1, from_100(-3, 60), slip)), 0);
     assert_eq!(rt; number(hall.enter(&q, 1, (1, 1, 1), slip)), 0);
-    let q = match hall.set(q, 1, 0) {
-        Ok(_) => {
-            assert!(rt; false);
-            return Ok(())
-        },
-        Err(back) => {
-            assert_eq!(rt; back.1.number(), 11);
-            back.0
-        }
-    };
+    let (q, refusal) = hall.set(q, 1, 0).err().ok_or("set to no time")?;
+    assert_eq!(rt; u8::from(refusal), 11);
     let due = set(&mut hall, q, 60)?;
     assert_eq!(rt; number(hall.step(&due, short)), 15);
     untouched(rt, short);
-    let due = match hall.rest(due) {
-        Ok(_) => {
-            assert!(rt; false);
-            return Ok(())
-        },
-        Err(back) => {
-            assert_eq!(rt; back.1.number(), 14);
-            back.0
-        }
-    };
+    let (due, refusal) = hall.rest(due).err().ok_or("at rest too early")?;
+    assert_eq!(rt; u8::from(refusal), 14);
     assert_eq!(rt; number(hall.step(&due, slip)), 0);
     assert_eq!(rt; number(hall.step(&due, slip)), 13);
     let q = rest(&mut hall, due)?;
-    match hall.set(q, 59, 1) {
-        Ok(_) => {
-            assert!(rt; false);
-            Ok(())
-        },
-        Err(back) => {
-            assert_eq!(rt; back.1.number(), 12);
-            Ok(())
-        },
-    }
+    let (_, refusal) = hall.set(q, 59, 1).err().ok_or("set back")?;
+    assert_eq!(rt; u8::from(refusal), 12);
+    Ok(())
 }
 
 fn strangers(rt: &impl Abort, slip: &mut [u32]) -> Result<(), Fail> {

@@ -12,16 +12,8 @@ const CUBE: (u16, u16, u16) = (10, 10, 10);
 
 /// Whether the page starts with these bytes.
 fn paged(rt: &impl Abort, page: &[u8], bytes: &[u8]) -> Result<(), Fail> {
-    match page.get(0..bytes.len()) {
-        Some(written) => {
-            assert!(rt; written == bytes);
-            Ok(())
-        },
-        None => {
-            assert!(rt; false);
-            Ok(())
-        },
-    }
+    assert_eq!(rt; page.get(0..bytes.len()), Some(bytes));
+    Ok(())
 }
 
 /// Whether the list is this.
@@ -53,15 +45,15 @@ fn past<Q: EventQueue + Drop>(rt: &impl Abort, queue: Q) -> Result<(), Fail> {
     assert_eq!(rt; slip[2], 17);
     assert_eq!(rt; ran.bytes, 11);
     paged(rt, &page, &[1, 0, 8, 0, 1, 0, 0, 0, 0x50, 0, 3, 7])?;
-    assert!(rt; hall.touching(&q, 0, 1).unwrap_or(false));
+    assert!(rt; hall.touching(&q, 0, 1)?);
     let (q, ran) = on_to(&mut hall, q, 40, &mut slip, &mut page)?;
     assert_eq!(rt; ran.steps, 0);
-    assert!(rt; hall.touching(&q, 0, 1).unwrap_or(false));
+    assert!(rt; hall.touching(&q, 0, 1)?);
     let (q, ran) = on_to(&mut hall, q, 50, &mut slip, &mut page)?;
     assert_eq!(rt; ran.steps, 1);
     wrote(rt, Ok(ran.lines), &slip, &[26, 29])?;
     paged(rt, &page, &[2, 0, 8, 0, 1, 0, 0, 0, 40, 0, 1, 7])?;
-    assert!(rt; !hall.touching(&q, 0, 1).unwrap_or(true));
+    assert!(rt; !hall.touching(&q, 0, 1)?);
     Ok(())
 }
 
@@ -85,7 +77,7 @@ fn turn<Q: EventQueue + Drop>(rt: &impl Abort, queue: Q) -> Result<(), Fail> {
             1, 0, 8, 0, 1, 0, 0, 0, 10, 0, 1, 2, 0, 8, 0, 1, 0, 0, 0, 10, 0, 1, 7,
         ],
     )?;
-    assert!(rt; !hall.touching(&q, 0, 1).unwrap_or(true));
+    assert!(rt; !hall.touching(&q, 0, 1)?);
     Ok(())
 }
 

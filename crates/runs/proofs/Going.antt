@@ -7,7 +7,7 @@ use Rattle.model.specs.Halls.{Hall, left, next_due}
 use Rattle.model.specs.Moves.{fire}
 use Rattle.model.specs.Runs.{Step, Ran, step, records, and_then, ended_with, run, run_on}
 use Rattle.floor_laws.specs.Writing.{Wrote, Fits, written}
-use Rattle.floor_laws.proofs.Writes.{written_then, written_none, written_start}
+use Rattle.floor_laws.proofs.Writes.{written_then, written_none, written_start, written_length}
 use Rattle.accounts.proofs.Counts.{fire_within}
 use Rattle.accounts.proofs.Ends.{runs_end, eleven}
 use Rattle.runs.specs.Running.{Next, Stop, Went}
@@ -51,6 +51,21 @@ going_none goal m s p = record {
   where
     same : (x : ℕ) → 0 + x ≤ x
     same x = omega arith
+
+pub going_new : (goal : Fraction) (m : Hall) (s p : List ℕ) (n b : ℕ) → n ≡ 0 → b ≡ 0 → Going goal m m s s p p 0 n b
+going_new goal m s p n b e f =
+    subst (λ (i : ℕ). Going goal m m s s p p 0 i b) (sym e) (subst (λ (i : ℕ). Going goal m m s s p p 0 0 i) (sym f) (going_none goal m s p))
+
+-- a slip and a page keep their lengths
+kept : (n : ℕ) (a s s₀ : List ℕ) → n ≡ length a → n ≤ length s₀ → s ≡ written 0 a s₀ → length s ≡ length s₀
+kept n a s s₀ e h p = ap length p ∙ written_length 0 a s₀ (omega arith)
+
+module _ (goal : Fraction) (m₀ m : Hall) (s₀ s p₀ p : List ℕ) (k n b : ℕ) (g : Going goal m₀ m s₀ s p₀ p k n b) where
+  pub going_slip : length s ≡ length s₀
+  going_slip = kept n g.told s s₀ g.lines g.room g.slip
+
+  pub going_page : length p ≡ length p₀
+  going_page = kept b g.noted p p₀ g.bytes g.space g.page
 
 more_written : (n : ℕ) (a b s₀ s s' : List ℕ) → n ≡ length a → n ≤ length s₀ → s ≡ written 0 a s₀ → s' ≡ written n b s → s' ≡ written 0 (a ++ b) s₀
 more_written n a b s₀ s s' e h p q =
@@ -122,19 +137,19 @@ module _ (goal : Fraction) (l b : ℕ) (m : Hall) where
         under i j p q = omega arith
 
 module _ (goal : Fraction) (m₀ m : Hall) (s₀ s p₀ p : List ℕ) (k n b : ℕ) (g : Going goal m₀ m s₀ s p₀ p k n b) where
-  pub going_all : (e : ℕ) → Stop goal (length s₀ - n) (length p₀ - b) m e → Went goal m₀ m s₀ s p₀ p e k n b
-  going_all e x =
+  pub going_all : (e r : ℕ) → r ≡ b → Stop goal (length s₀ - n) (length p₀ - b) m e → Went goal m₀ m s₀ s p₀ p e k n r
+  going_all e r q x =
       let all = g.whole ∙ ap (prefixed g.told g.noted k) (over goal (length s₀ - n) (length p₀ - b) m e x) in
       let ls = ap (λ (r : Ran). r.lines) all ∙ append-nil g.told in
       let ps = ap (λ (r : Ran). r.page) all ∙ append-nil g.noted in
       record {
         hall = sym (ap (λ (r : Ran). r.hall) all);
         slip = g.slip ∙ written_start g.told s₀ ∙ (λ t. sym ls t ++ drop (sym g.lines t) s₀);
-        page = g.page ∙ written_start g.noted p₀ ∙ (λ t. sym ps t ++ drop (sym g.bytes t) p₀);
+        page = g.page ∙ written_start g.noted p₀ ∙ (λ t. sym ps t ++ drop (sym (q ∙ g.bytes) t) p₀);
         ended = sym (ap (λ (r : Ran). r.ended) all);
         steps = sym (ap (λ (r : Ran). r.steps) all ∙ add-zero k);
         lines = g.lines ∙ sym (ap length ls);
-        bytes = g.bytes ∙ sym (ap length ps);
+        bytes = q ∙ g.bytes ∙ sym (ap length ps);
       }
 
   module _ (f : ℕ × Stamp) (x : Next goal (length s₀ - n) (length p₀ - b) m f) where
@@ -185,9 +200,9 @@ step_fits f k m s h p q = record {
     under i j p q = omega arith
 
 -- a slip and a page keep their lengths
-module _ (goal : Fraction) (i i' j j' n b : ℕ) (m : Hall) (e : i ≡ i') (h : j ≡ j') where
-  pub next_at : (f : ℕ × Stamp) → Next goal (i - n) (j - b) m f → Next goal (i' - n) (j' - b) m f
-  next_at f x = subst (λ (y : ℕ). Next goal (i' - n) (y - b) m f) h (subst (λ (y : ℕ). Next goal (y - n) (j - b) m f) e x)
+module _ (goal : Fraction) (i i' j j' n b y : ℕ) (m : Hall) (e : i ≡ i') (h : j ≡ j') (q : y ≡ j - b) where
+  pub next_at : (f : ℕ × Stamp) → Next goal (i - n) y m f → Next goal (i' - n) (j' - b) m f
+  next_at f x = subst (λ (v : ℕ). Next goal (i' - n) (v - b) m f) h (subst (λ (v : ℕ). Next goal (v - n) (j - b) m f) e (subst (λ (v : ℕ). Next goal (i - n) v m f) q x))
 
-  pub stop_at : (k : ℕ) → Stop goal (i - n) (j - b) m k → Stop goal (i' - n) (j' - b) m k
-  stop_at k x = subst (λ (y : ℕ). Stop goal (i' - n) (y - b) m k) h (subst (λ (y : ℕ). Stop goal (y - n) (j - b) m k) e x)
+  pub stop_at : (k : ℕ) → Stop goal (i - n) y m k → Stop goal (i' - n) (j' - b) m k
+  stop_at k x = subst (λ (v : ℕ). Stop goal (i' - n) (v - b) m k) h (subst (λ (v : ℕ). Stop goal (v - n) (j - b) m k) e (subst (λ (v : ℕ). Stop goal (i - n) v m k) q x))

@@ -1,4 +1,3 @@
-pub mod Telling
 pub mod Nexts
 pub mod Going
 pub mod Rows

@@ -1,11 +1,21 @@
 -- What a run does next.
-use Rattle.std.proofs.Common.{◌≡◌, ℕ, ◌<◌, Bool, true, false, cond, ◌||◌, ltb, Some, None, Option, ap, ◌∙◌}
+use Rattle.std.proofs.Common.{◌≡◌, ℕ, ◌<◌, Bool, true, false, cond, ◌||◌, ltb, Some, None, Ok, Err, Option, Result, IsErrAnd, MatchResult, ok_or, sym, refl, ap, ◌∙◌, subst}
 use Rattle.std.proofs.lemmas.Bool.{ltb-false, or_parts}
 use Rattle.rules.specs.Fractions.{Fraction}
 use Rattle.rules.specs.Stamps.{Stamp}
 use Rattle.model.specs.Halls.{Hall, left, next_due}
 use Rattle.model.specs.Runs.{ending}
 use Rattle.runs.specs.Running.{Next, Stop}
+
+-- an answer that is none becomes the error
+pub nothing : {A E : Type 0} → (o : Option A) (e d : E) → Err e ≡ ok_or o d → (o ≡ None) × (d ≡ e)
+nothing None e d p = (refl, cc)
+nothing (Some x) e d p = cc
+
+-- an error that is passed on
+pub stopped : {A E : Type 0} → (P : A → Type 0) (Q : E → Type 0) (r : Result A E) (e : E) → IsErrAnd r (λ y. y ≡ e) → Q e → MatchResult r P Q
+stopped P Q (Ok x) e p q = absurd p
+stopped P Q (Err y) e p q = subst Q (sym p) q
 
 module _ (goal : Fraction) (l b : ℕ) (m : Hall) where
   pub nothing_due : next_due goal m ≡ None → Stop goal l b m 0

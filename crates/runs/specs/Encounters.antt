@@ -1,34 +1,34 @@
 -- What a firing tells of two craft, by the bits before it.
 use Rattle.std.specs.Prelude.{ℕ, Bool, cond, not, ◌&&◌, ◌||◌, Some, None, Option, nat_le, nat_lt}
 use Rattle.rules.specs.Paths as path
-use Rattle.rules.specs.Pages.{News, met, parted}
-use Rattle.geometry.specs.declared.axis.Axis.{Axis}
-use Rattle.geometry.specs.declared.axis.Axis.TheVariants.{X, Y, Z}
+use Rattle.rules.specs.Pages.{News}
+use Rattle.fleet.specs.declared.axes.Xyz.{Xyz}
+use Rattle.pages.specs.declared.report.Encounter.{Encounter}
+use Rattle.pages.specs.Of.{news_told}
+use Rattle.fleet.specs.declared.axes.Axis.{Axis}
+use Rattle.fleet.specs.declared.axes.Axis.TheVariants.{X, Y, Z}
 use Rattle.model.specs.Moves.{axis_of, lower_of, higher_of}
 use Rattle.model.specs.Runs.{news}
 use Rattle.runs.specs.declared.encounters.Certificate.{Certificate}
 use Rattle.runs.specs.declared.encounters.Certificate.TheVariants.{Bit, Leg}
-use Rattle.runs.specs.declared.encounters.Encounter.{Encounter}
-use Rattle.runs.specs.declared.encounters.Encounter.TheVariants.{Met, Parted, Neither}
 
 -- the code's answer as news
-abbrev pub encounter_told : Encounter → Option News
-encounter_told (Met c d) = Some (met c d)
-encounter_told (Parted c d) = Some (parted c d)
-encounter_told Neither = None
+abbrev pub encounter_told : Option Encounter → Option News
+encounter_told None = None
+encounter_told (Some e) = Some (news_told e.kind e.lower e.higher)
 
 -- the bits of two craft on x, y and z
 abbrev pub Bits : Type 0
-Bits = Bool × Bool × Bool
+Bits = Xyz Bool
 
 abbrev pub all_set : Bits → Bool
-all_set b = b.0 && b.1 && b.2
+all_set b = b.x && b.y && b.z
 
 -- the bit of one axis changed
 abbrev pub turned : Axis → Bits → Bits
-turned X b = (not b.0, b.1, b.2)
-turned Y b = (b.0, not b.1, b.2)
-turned Z b = (b.0, b.1, not b.2)
+turned X b = record { x = not b.x; y = b.y; z = b.z }
+turned Y b = record { x = b.x; y = not b.y; z = b.z }
+turned Z b = record { x = b.x; y = b.y; z = not b.z }
 
 -- the news of a firing: all three bits before, and after the certificate's bit has changed
 abbrev pub news_of : Certificate → Bits → Option News

@@ -1,10 +1,7 @@
 -- What a run leaves and tells.
-use Rattle.std.specs.Prelude.{◌≡◌, ℕ, ◌<◌, ◌≤◌, List, [], ◌++◌, length, drop, Some, None, Option}
+use Rattle.std.specs.Prelude.{◌≡◌, ℕ, ◌<◌, ◌≤◌, List, ◌++◌, length, drop, Some, None}
 use Rattle.rules.specs.Fractions.{Fraction}
 use Rattle.rules.specs.Stamps.{Stamp}
-use Rattle.rules.specs.Pages.{page_record}
-use Rattle.pages.specs.declared.report.Report.{Report as Written}
-use Rattle.pages.specs.Of.{report_of}
 use Rattle.model.specs.Halls.{Hall, left, next_due}
 use Rattle.model.specs.Runs.{run, ending}
 use Rattle.runs.specs.declared.ended.Ended.{Ended}
@@ -15,11 +12,6 @@ abbrev pub ended_number : Ended → ℕ
 ended_number NothingDue = 0
 ended_number Room = 15
 ended_number Numbers = 16
-
--- the record of a report, if there is one
-abbrev pub reported : Option Written → List ℕ
-reported None = []
-reported (Some r) = page_record (report_of r)
 
 -- a run goes on with f: it is due, and there is room for its lines and its record, and numbers enough
 pub record Next (goal : Fraction) (lines bytes : ℕ) (m : Hall) (f : ℕ × Stamp) : Type 0 where

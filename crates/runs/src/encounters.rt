@@ -1,25 +1,21 @@
 //! What a firing tells of two craft.
-ghost use Rattle.std.specs.Prelude.{◌≡◌};
+ghost use Rattle.std.specs.Prelude.{◌≡◌, Some};
+ghost use Rattle.pages.specs.Of.{news_told};
 ghost use Rattle.runs.specs.Encounters.{encounter_told, news_of, certificate_at};
 
-use geometry::Axis;
+use fleet::{Axis, Xyz};
+use pages::{Encounter, Kind};
 use slots::{axis_at, higher_at, lower_at};
 
 /// What a slot's certificate is of.
+// A rule of the project: met, parted or neither is one decision over the certificate's kind, so the kinds keep names of their own.
+// No plainer with `Craft`: a definition that names the certificate of any number would carry the proofs that its craft are in range.
 #[derive(Clone, Copy)]
 pub enum Certificate {
     /// The bit of two craft on an axis, the lower number first.
     Bit(Axis, u8, u8),
     /// A leg; or nothing that tells of two craft, as a slot whose first craft is above its second.
     Leg,
-}
-
-/// Whether two craft, the lower number first, met or parted.
-#[derive(Clone, Copy, PartialEq, Eq, Debug)]
-pub enum Encounter {
-    Met(u8, u8),
-    Parted(u8, u8),
-    Neither,
 }
 
 /// What the certificate of a slot is of.
@@ -29,20 +25,43 @@ pub fn certificate_at(slot: u16) -> Certificate
     if slot >= 12288 || lower_at(slot) > higher_at(slot) {
         return Certificate::Leg;
     }
-    Certificate::Bit(axis_at(slot), lower_at(slot), higher_at(slot))
+    Certificate::Bit(axis_at(slot), lower_at(slot).number, higher_at(slot).number)
+}
+
+/// What is told of two craft.
+fn told(kind: Kind, lower: u8, higher: u8) -> Option<Encounter>
+    ensures { encounter_told result ≡ Some (news_told kind lower higher) }
+{
+    Some(Encounter {
+        kind,
+        lower,
+        higher,
+    })
 }
 
 /// What a firing tells, by the certificate, the side of its moment and the bits on x, y and z before it.
 /// A bit's firing changes that bit and no other: two craft part where all three were set, and meet where the other two are.
 /// Bits are set at side 0 and cleared at side 1; the bits alone tell which of these it is, so every side is taken alike.
-pub fn decide(certificate: Certificate, after: bool, bits: (bool, bool, bool)) -> Encounter
+pub fn decide(certificate: Certificate, after: bool, bits: Xyz<bool>) -> Option<Encounter>
     ensures { encounter_told result ≡ news_of certificate bits }
 {
     match (certificate, after, bits) {
-        (Certificate::Bit(_, c, d), _, (x, y, z)) if x && y && z => Encounter::Parted(c, d),
-        (Certificate::Bit(Axis::X, c, d), _, (_, y, z)) if y && z => Encounter::Met(c, d),
-        (Certificate::Bit(Axis::Y, c, d), _, (x, _, z)) if x && z => Encounter::Met(c, d),
-        (Certificate::Bit(Axis::Z, c, d), _, (x, y, _)) if x && y => Encounter::Met(c, d),
-        (_, _, _) => Encounter::Neither,
+        (Certificate::Bit(_, c, d), _, Xyz { x, y, z }) if x && y && z => told(Kind::Parting, c, d),
+        (Certificate::Bit(Axis::X, c, d), _, Xyz { y, z, .. }) if y && z => told(
+            Kind::Meeting,
+            c,
+            d,
+        ),
+        (Certificate::Bit(Axis::Y, c, d), _, Xyz { x, z, .. }) if x && z => told(
+            Kind::Meeting,
+            c,
+            d,
+        ),
+        (Certificate::Bit(Axis::Z, c, d), _, Xyz { x, y, .. }) if x && y => told(
+            Kind::Meeting,
+            c,
+            d,
+        ),
+        (_, _, _) => None,
     }
 }

@@ -7,7 +7,7 @@ pub mod listing;
 pub mod running;
 pub mod stepping;
 
-pub use encounters::{Certificate, Encounter};
+pub use encounters::Certificate;
 pub use ended::Ended;
 pub use listing::{count_pairs, list_pairs};
 pub use running::{Ran, run};

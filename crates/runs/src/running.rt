@@ -1,20 +1,20 @@
 //! A run: steps one after another, until nothing is due.
-ghost use Rattle.std.specs.Prelude.{◌≡◌, ◌+◌, ◌≤◌, ◌||◌, length, MatchResult, nat_lt};
+ghost use Rattle.std.specs.Prelude.{◌≡◌, ◌+◌, ◌≤◌, length, MatchResult};
 ghost use Rattle.times.specs.Of.{time_of, moment_of};
 ghost use Rattle.model.specs.Runs.{records};
 ghost use Rattle.floor_laws.specs.Writing.{written};
 ghost use Rattle.floor.specs.Of.{hall_of};
 ghost use Rattle.runs.specs.Encounters.{encounter_told};
-ghost use Rattle.runs.specs.Running.{ended_number, reported, Next, Stop, Went};
+ghost use Rattle.runs.specs.Running.{ended_number, Next, Stop, Went};
 
-use crate::encounters::Encounter;
 use crate::ended::Ended;
 use crate::stepping::step;
 use books::FlightBook;
 use floor::Floor;
-use pages::{Kind, Report, write_report};
-use queues::EventQueue;
-use times::{Moment, Time};
+use pages::{Encounter, PageWriter, RECORD};
+use queues::{Entry, EventQueue};
+use slots::Slip;
+use times::Time;
 
 /// How a run ended, after how many steps, and how many lines and bytes it wrote.
 #[derive(Clone, Copy)]
@@ -25,75 +25,68 @@ pub struct Ran {
     pub bytes: usize,
 }
 
-/// Whether so few lines or bytes remain that a step might not fit: it writes at most 380 lines, and a record of 11 bytes.
-fn too_little(lines: usize, bytes: usize) -> bool
-    ensures { result ≡ (nat_lt lines 380 || nat_lt bytes 11) }
-{
-    lines < 380 || bytes < 11
-}
-
-/// Whether so few numbers are left that a step might need more: it grants at most 190.
-fn too_few(left: u32) -> bool
-    ensures { result ≡ nat_lt left 190 }
-{
-    left < 190
-}
-
-/// The next step of a run with room for so many lines and bytes: the slot that is due and its moment; or how the run ends.
+/// The next step of a run with room for so many lines and bytes: what is due; or how the run ends.
+/// A step writes at most 380 lines and one record, and grants at most 190 numbers.
 fn next<B: FlightBook, Q: EventQueue>(
     floor: &Floor<B, Q>,
     goal: Time,
     lines: usize,
     bytes: usize,
-) -> Result<(u16, Moment), Ended>
-    ensures { MatchResult result (λ f. Next (time_of goal) lines bytes (hall_of B.meaning Q.holds floor.now) (f.0, moment_of f.1)) (λ e. Stop (time_of goal) lines bytes (hall_of B.meaning Q.holds floor.now) (ended_number e)) }
+) -> Result<Entry, Ended>
+    ensures { MatchResult result (λ d. Next (time_of goal) lines bytes (hall_of B.meaning Q.holds floor.now) (d.slot.number, moment_of d.moment)) (λ e. Stop (time_of goal) lines bytes (hall_of B.meaning Q.holds floor.now) (ended_number e)) }
 {
-    let Some(due) = floor.due(goal) else {
-        return Err(Ended::NothingDue);
-    };
-    if too_little(lines, bytes) {
+    let due = floor.due(goal).ok_or(Ended::NothingDue)?;
+    if lines < 380 || bytes < RECORD {
         return Err(Ended::Room);
     }
-    if too_few(floor.left()) {
+    if floor.left() < 190 {
         return Err(Ended::Numbers);
     }
     Ok(due)
 }
 
-/// The report of an encounter at a time, if two craft met or parted.
-fn report(news: Encounter, time: Time) -> Option<Report>
-    ensures { reported result ≡ records (time_of time) (encounter_told news) }
+/// Writes the record of a step's news on the page, if there is any.
+fn write_news(page: &mut PageWriter, news: Option<Encounter>, time: Time)
+    requires { page.old.used + 11 ≤ length page.old.page.now }
+    ensures used { page.new.used ≡ page.old.used + length (records (time_of time) (encounter_told news)) }
+    ensures page { page.new.page.now ≡ written page.old.used (records (time_of time) (encounter_told news)) page.old.page.now }
+    ensures same { page.new.page.ghost_name ≡ page.old.page.ghost_name }
 {
-    match news {
-        Encounter::Met(lower, higher) => Some(Report {
-            kind: Kind::Meeting,
-            lower,
-            higher,
-            time,
-        }),
-        Encounter::Parted(lower, higher) => Some(Report {
-            kind: Kind::Parting,
-            lower,
-            higher,
-            time,
-        }),
-        Encounter::Neither => None,
+    if let Some(told) = news {
+        let _ = page.write(told.at(time));
     }
 }
 
-/// Writes the record of a step's news, if there is any, on the page from `at` on; tells how many bytes of the page are then used.
-fn write_news(page: &mut [u8], at: usize, news: Encounter, time: Time) -> usize
-    requires { at + 11 ≤ length page.old }
-    ensures used { result ≡ at + length (records (time_of time) (encounter_told news)) }
-    ensures page { page.new ≡ written at (records (time_of time) (encounter_told news)) page.old }
+/// Steps until nothing is due by the goal, on a slip and a page that are not yet used.
+fn go_on<B: FlightBook, Q: EventQueue>(
+    floor: &mut Floor<B, Q>,
+    goal: Time,
+    slip: &mut Slip,
+    page: &mut PageWriter,
+) -> Ran
+    requires slip { slip.old.used ≡ 0 }
+    requires page { page.old.used ≡ 0 }
+    ensures went { Went (time_of goal) (hall_of B.meaning Q.holds floor.old) (hall_of B.meaning Q.holds floor.new) slip.old.lines.now slip.new.lines.now page.old.page.now page.new.page.now (ended_number result.ended) result.steps result.lines result.bytes }
+    ensures slip { slip.new.lines.ghost_name ≡ slip.old.lines.ghost_name }
+    ensures page { page.new.page.ghost_name ≡ page.old.page.ghost_name }
 {
-    let Some(told) = report(news, time) else {
-        return at;
+    let mut steps = 0;
+    let ended = 'steps: loop {
+        match next(floor, goal, slip.lines.len() - slip.used, page.left()) {
+            Ok(due) => {
+                let done = step(floor, due, slip);
+                write_news(page, done.news, done.time);
+                steps += 1;
+            }
+            Err(ended) => break ended,
+        }
     };
-    let Some(used) = write_report(page, at, told) else {
-        return at;
-    };
-    used
+    Ran {
+        ended,
+        steps,
+        lines: slip.used,
+        bytes: page.used(),
+    }
 }
 
 /// Steps until nothing is due by the goal, with the lines from the slip's start and the records of meetings and partings from the
@@ -106,22 +99,7 @@ pub fn run<B: FlightBook, Q: EventQueue>(
 ) -> Ran
     ensures { Went (time_of goal) (hall_of B.meaning Q.holds floor.old) (hall_of B.meaning Q.holds floor.new) slip.old slip.new page.old page.new (ended_number result.ended) result.steps result.lines result.bytes }
 {
-    let mut steps = 0;
-    let mut lines = 0;
-    let mut bytes = 0;
-    'steps: loop {
-        let (slot, moment) = match next(floor, goal, slip.len() - lines, page.len() - bytes) {
-            Ok(due) => due,
-            Err(ended) => return Ran {
-                ended,
-                steps,
-                lines,
-                bytes,
-            },
-        };
-        let done = step(floor, slot, moment, slip, lines);
-        bytes = write_news(page, bytes, done.news, done.time);
-        lines = done.end;
-        steps += 1;
-    }
+    let mut lines = Slip::new(slip);
+    let mut records = PageWriter::new(page);
+    go_on(floor, goal, &mut lines, &mut records)
 }

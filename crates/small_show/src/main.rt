@@ -35,25 +35,13 @@ fn there_and_back() -> Plan {
 /// The show until tick 30.
 fn fly<Q: EventQueue + Drop>(queue: Q, page: &mut [u8]) -> Result<Flown, Refusal> {
     let mut slip = [0u32; 12224];
-    let (mut hall, q) = match Hall::open(PlanBook::itinerary(), queue) {
-        Ok(opened) => opened,
-        Err(back) => return Err(back.2),
-    };
+    let (mut hall, q) = Hall::open(PlanBook::itinerary(), queue).map_err(|back| back.2)?;
     let _ = hall.file(&q, 1, there_and_back(), &mut slip)?;
     let _ = hall.enter(&q, 0, (10, 10, 10), &mut slip)?;
     let _ = hall.enter(&q, 1, (10, 10, 10), &mut slip)?;
-    let due = match hall.set(q, 30, 1) {
-        Ok(due) => due,
-        Err(back) => return Err(back.1),
-    };
-    let (due, ran) = match hall.run(due, &mut slip, page) {
-        Ok(run) => run,
-        Err(back) => return Err(back.1),
-    };
-    let q = match hall.rest(due) {
-        Ok(q) => q,
-        Err(back) => return Err(back.1),
-    };
+    let due = hall.set(q, 30, 1).map_err(|back| back.1)?;
+    let (due, ran) = hall.run(due, &mut slip, page).map_err(|back| back.1)?;
+    let q = hall.rest(due).map_err(|back| back.1)?;
     let touch = hall.touching(&q, 0, 1)?;
     Ok(Flown {
         bytes: ran.bytes,
@@ -62,6 +50,7 @@ fn fly<Q: EventQueue + Drop>(queue: Q, page: &mut [u8]) -> Result<Flown, Refusal
 }
 
 /// The word for a record's kind.
+// No plainer by the kind's own text, which is "meeting" or "parting".
 fn word(kind: Kind) -> &'static str {
     match kind {
         Kind::Meeting => "met",
@@ -72,6 +61,7 @@ fn word(kind: Kind) -> &'static str {
 /// The page's first bytes in words.
 fn told(rt: &HostRuntime, bytes: &[u8]) -> io::Result<()> {
     let mut reader = Reader::new(bytes);
+    // No plainer as `while let`: a page of 110 bytes has ten records, and that reading ends would have to be shown.
     for _ in 0..100 {
         match reader.next() {
             Ok(Some(record)) => {
@@ -98,7 +88,7 @@ fn show<Q: EventQueue + Drop>(rt: &HostRuntime, name: &str, queue: Q) -> io::Res
             }
         }
         Err(refusal) => {
-            let number = refusal.number();
+            let number = u8::from(refusal);
             println!(rt; "{name}: refused {number}")
         }
     }

@@ -1,6 +1,5 @@
 //! Filing plans and taking seats.
-ghost use Rattle.std.specs.Prelude.{◌≡◌, length};
-ghost use Rattle.rules.specs.Books.{carrier_out, carrier_is};
+ghost use Rattle.std.specs.Prelude.{◌≡◌, length, IfOk};
 ghost use Rattle.times.specs.Of.{time_of};
 ghost use Rattle.plans.specs.Of.{plan_of};
 ghost use Rattle.model.specs.Calls.{changing, filing, riding};
@@ -8,56 +7,32 @@ ghost use Rattle.model.specs.Refusals.{refusal};
 ghost use Rattle.hall.specs.Of.{state_of};
 ghost use Rattle.hall.specs.Told.{refused_by, Wrote, done_told, count_told};
 
+use crate::hall::rows::room_for;
 use crate::hall::{Hall, Quiet};
-use books::FlightBook;
+use books::{FlightBook, Seat};
+use fleet::Craft;
 use plans::Plan;
 use queues::EventQueue;
+use slots::Slip;
 use times::{Moment, Refusal};
 
-/// Whether there is a carrier that is out of range.
-fn is_out(carrier: Option<u8>) -> bool
-    ensures { result ≡ carrier_out carrier }
-{
-    match carrier {
-        Some(k) => k >= 64,
-        None => false,
-    }
-}
-
-/// Whether a craft is named as its own carrier.
-fn is_own(carrier: Option<u8>, craft: u8) -> bool
-    ensures { result ≡ carrier_is carrier craft }
-{
-    match carrier {
-        Some(k) => k == craft,
-        None => false,
-    }
-}
-
 impl<B: FlightBook, Q: EventQueue> Hall<B, Q> {
-    /// The first row of the table that fits a filing.
-    fn refuses_file(&self, q: &Quiet, craft: u8, plan: &Plan, room: usize) -> Option<Refusal>
-        ensures { refused_by result ≡ refusal (changing (time_of q.now.at) (filing craft (plan_of plan.now)) room) (state_of B.meaning Q.holds self.now) }
+    /// The craft whose plan is filed, or the first row of the table that fits.
+    fn allows_file(&self, q: &Quiet, craft: u8, plan: &Plan, room: usize) -> Result<Craft, Refusal>
+        ensures refused { refused_by result ≡ refusal (changing (time_of q.now.at) (filing craft (plan_of plan.now)) room) (state_of B.meaning Q.holds self.now) }
+        ensures craft { IfOk result (λ c. c.number ≡ craft) }
     {
-        if !self.knows(q) {
-            return Some(Refusal::WrongClock);
-        }
-        if craft >= 64 {
-            return Some(Refusal::CraftRange);
-        }
+        self.knows(q)?;
+        let named = Craft::new(craft)?;
         if !plan.keeps_rules() {
-            return Some(Refusal::PlanRules);
+            return Err(Refusal::PlanRules);
         }
         if plan.count > self.floor.leg_limit() {
-            return Some(Refusal::LegLimit);
+            return Err(Refusal::LegLimit);
         }
-        if room < 12224 {
-            return Some(Refusal::Room);
-        }
-        if self.floor.left() < 6112 {
-            return Some(Refusal::Numbers);
-        }
-        None
+        room_for(12224, room)?;
+        self.numbers_for(6112)?;
+        Ok(named)
     }
 
     /// Files a plan for a craft, and returns how many lines were written.
@@ -71,42 +46,32 @@ impl<B: FlightBook, Q: EventQueue> Hall<B, Q> {
     ) -> Result<usize, Refusal>
         ensures { Wrote (changing (time_of q.now.at) (filing craft (plan_of plan)) (length slip.old)) (state_of B.meaning Q.holds self.old) (state_of B.meaning Q.holds self.new) (done_told result) slip.old slip.new (count_told result) }
     {
-        if let Some(e) = self.refuses_file(q, craft, &plan, slip.len()) {
-            return Err(e);
-        }
-        Ok(self.floor.file(craft, plan, Moment::at(q.at), slip, 0))
+        let craft = self.allows_file(q, craft, &plan, slip.len())?;
+        let mut slip = Slip::new(slip);
+        self.floor.file(craft, plan, Moment::at(q.at), &mut slip);
+        Ok(slip.used)
     }
 
-    /// The first row of the table that fits a ride.
-    fn refuses_ride(
+    /// The craft whose seat is set, or the first row of the table that fits.
+    fn allows_ride(
         &self,
         q: &Quiet,
         craft: u8,
         level: u8,
         carrier: Option<u8>,
         room: usize,
-    ) -> Option<Refusal>
-        ensures { refused_by result ≡ refusal (changing (time_of q.now.at) (riding craft level carrier) room) (state_of B.meaning Q.holds self.now) }
+    ) -> Result<Craft, Refusal>
+        ensures refused { refused_by result ≡ refusal (changing (time_of q.now.at) (riding craft level carrier) room) (state_of B.meaning Q.holds self.now) }
+        ensures craft { IfOk result (λ c. c.number ≡ craft) }
     {
-        if !self.knows(q) {
-            return Some(Refusal::WrongClock);
-        }
-        if craft >= 64 || is_out(carrier) {
-            return Some(Refusal::CraftRange);
-        }
-        if is_own(carrier, craft) {
-            return Some(Refusal::SameCraft);
-        }
+        self.knows(q)?;
+        let seat = Seat::new(craft, carrier)?;
         if level >= self.floor.levels() {
-            return Some(Refusal::LevelRange);
+            return Err(Refusal::LevelRange);
         }
-        if room < 12224 {
-            return Some(Refusal::Room);
-        }
-        if self.floor.left() < 6112 {
-            return Some(Refusal::Numbers);
-        }
-        None
+        room_for(12224, room)?;
+        self.numbers_for(6112)?;
+        Ok(seat.craft)
     }
 
     /// Sets a craft's seat at a level to a carrier, or empties it, and returns how many lines were written.
@@ -121,12 +86,10 @@ impl<B: FlightBook, Q: EventQueue> Hall<B, Q> {
     ) -> Result<usize, Refusal>
         ensures { Wrote (changing (time_of q.now.at) (riding craft level carrier) (length slip.old)) (state_of B.meaning Q.holds self.old) (state_of B.meaning Q.holds self.new) (done_told result) slip.old slip.new (count_told result) }
     {
-        if let Some(e) = self.refuses_ride(q, craft, level, carrier, slip.len()) {
-            return Err(e);
-        }
-        Ok(
-            self.floor
-                .ride(craft, level, carrier, Moment::at(q.at), slip, 0),
-        )
+        let craft = self.allows_ride(q, craft, level, carrier, slip.len())?;
+        let mut slip = Slip::new(slip);
+        self.floor
+            .ride(craft, level, carrier, Moment::at(q.at), &mut slip);
+        Ok(slip.used)
     }
 }

@@ -1,10 +1,10 @@
 //! Whose clock it is, and opening a hall.
-ghost use Rattle.std.specs.Prelude.{◌≡◌, not};
+ghost use Rattle.std.specs.Prelude.{◌≡◌};
 ghost use Rattle.model.specs.Refusals.{not_mine};
 ghost use Rattle.model.specs.Show.{SmallShow};
 ghost use Rattle.model.specs.Statement.{Promise};
 ghost use Rattle.hall.specs.Of.{quiet_of, due_of, state_of};
-ghost use Rattle.hall.specs.Told.{Opening};
+ghost use Rattle.hall.specs.Told.{refused_by, row, Opening};
 
 use crate::hall::{Due, Hall, Quiet};
 use books::FlightBook;
@@ -13,24 +13,24 @@ use queues::EventQueue;
 use times::{Refusal, Time};
 
 impl<B: FlightBook, Q: EventQueue> Hall<B, Q> {
-    /// Whether a quiet clock is the hall's.
-    pub(super) fn knows(&self, q: &Quiet) -> bool
-        ensures { not_mine (state_of B.meaning Q.holds self.now) (quiet_of q.now) ≡ not result }
+    /// Refused where a quiet clock is not the hall's.
+    pub(super) fn knows(&self, q: &Quiet) -> Result<(), Refusal>
+        ensures { refused_by result ≡ row 1 (not_mine (state_of B.meaning Q.holds self.now) (quiet_of q.now)) }
     {
-        match self.goal {
-            Some(_) => false,
-            None => q.at.same(self.time),
+        if self.goal.is_some() || q.at != self.time {
+            return Err(Refusal::WrongClock);
         }
+        Ok(())
     }
 
-    /// Whether a due clock is the hall's.
-    pub(super) fn knows_due(&self, d: &Due) -> bool
-        ensures { not_mine (state_of B.meaning Q.holds self.now) (due_of d.now) ≡ not result }
+    /// Refused where a due clock is not the hall's.
+    pub(super) fn knows_due(&self, d: &Due) -> Result<(), Refusal>
+        ensures { refused_by result ≡ row 1 (not_mine (state_of B.meaning Q.holds self.now) (due_of d.now)) }
     {
-        match self.goal {
-            Some(goal) => d.at.same(self.time) && d.goal.same(goal),
-            None => false,
+        if self.goal != Some(d.goal) || d.at != self.time {
+            return Err(Refusal::WrongClock);
         }
+        Ok(())
     }
 
     /// Opens a hall over a book and an empty queue, at time 0; or hands both back. Refused, in this order: scale above 8, queue holds something.

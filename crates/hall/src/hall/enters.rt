@@ -1,48 +1,43 @@
 //! Entering and leaving.
-ghost use Rattle.std.specs.Prelude.{◌≡◌, length};
+ghost use Rattle.std.specs.Prelude.{◌≡◌, length, IfOk};
 ghost use Rattle.times.specs.Of.{time_of};
-ghost use Rattle.geometry.specs.Of.{sizes};
+ghost use Rattle.geometry.specs.Of.{sizes, box_of};
 ghost use Rattle.model.specs.Calls.{changing, entering, leaving};
 ghost use Rattle.model.specs.Refusals.{refusal};
 ghost use Rattle.hall.specs.Of.{state_of};
 ghost use Rattle.hall.specs.Told.{refused_by, Wrote, done_told, count_told};
 
+use crate::hall::rows::room_for;
 use crate::hall::{Hall, Quiet};
 use books::FlightBook;
+use fleet::{Craft, Xyz};
 use geometry::HalfSizes;
 use queues::EventQueue;
+use slots::Slip;
 use times::{Moment, Refusal};
 
 impl<B: FlightBook, Q: EventQueue> Hall<B, Q> {
-    /// The first row of the table that fits an entering.
-    fn refuses_enter(
+    /// The craft that enters and its half sizes, or the first row of the table that fits.
+    fn allows_enter(
         &self,
         q: &Quiet,
         craft: u8,
         half: (u16, u16, u16),
         room: usize,
-    ) -> Option<Refusal>
-        ensures { refused_by result ≡ refusal (changing (time_of q.now.at) (entering craft (sizes half.0 half.1 half.2)) room) (state_of B.meaning Q.holds self.now) }
+    ) -> Result<(Craft, HalfSizes), Refusal>
+        ensures refused { refused_by result ≡ refusal (changing (time_of q.now.at) (entering craft (sizes half.0 half.1 half.2)) room) (state_of B.meaning Q.holds self.now) }
+        ensures entering { IfOk result (λ e. (e.0.number ≡ craft) × (box_of e.1 ≡ sizes half.0 half.1 half.2)) }
     {
-        if !self.knows(q) {
-            return Some(Refusal::WrongClock);
+        self.knows(q)?;
+        let named = Craft::new(craft)?;
+        if self.floor.is_entered(named) {
+            return Err(Refusal::Entered);
         }
-        if craft >= 64 {
-            return Some(Refusal::CraftRange);
-        }
-        if self.floor.is_entered(craft) {
-            return Some(Refusal::Entered);
-        }
-        if HalfSizes::new(half.0, half.1, half.2).is_err() {
-            return Some(Refusal::HalfSize);
-        }
-        if room < 190 {
-            return Some(Refusal::Room);
-        }
-        if self.floor.left() < 190 {
-            return Some(Refusal::Numbers);
-        }
-        None
+        let (x, y, z) = half;
+        let sizes = HalfSizes::new(Xyz { x, y, z })?;
+        room_for(190, room)?;
+        self.numbers_for(190)?;
+        Ok((named, sizes))
     }
 
     /// Enters a craft with its half sizes on the axes x, y and z, and returns how many lines were written.
@@ -56,32 +51,24 @@ impl<B: FlightBook, Q: EventQueue> Hall<B, Q> {
     ) -> Result<usize, Refusal>
         ensures { Wrote (changing (time_of q.now.at) (entering craft (sizes half.0 half.1 half.2)) (length slip.old)) (state_of B.meaning Q.holds self.old) (state_of B.meaning Q.holds self.new) (done_told result) slip.old slip.new (count_told result) }
     {
-        if let Some(e) = self.refuses_enter(q, craft, half, slip.len()) {
-            return Err(e);
-        }
-        let Ok(sizes) = HalfSizes::new(half.0, half.1, half.2) else {
-            return Err(Refusal::HalfSize);
-        };
-        Ok(self.floor.enter(craft, sizes, Moment::at(q.at), slip, 0))
+        let (craft, sizes) = self.allows_enter(q, craft, half, slip.len())?;
+        let mut slip = Slip::new(slip);
+        self.floor.enter(craft, sizes, Moment::at(q.at), &mut slip);
+        Ok(slip.used)
     }
 
-    /// The first row of the table that fits a leaving.
-    fn refuses_leave(&self, q: &Quiet, craft: u8, room: usize) -> Option<Refusal>
-        ensures { refused_by result ≡ refusal (changing (time_of q.now.at) (leaving craft) room) (state_of B.meaning Q.holds self.now) }
+    /// The craft that leaves, or the first row of the table that fits.
+    fn allows_leave(&self, q: &Quiet, craft: u8, room: usize) -> Result<Craft, Refusal>
+        ensures refused { refused_by result ≡ refusal (changing (time_of q.now.at) (leaving craft) room) (state_of B.meaning Q.holds self.now) }
+        ensures craft { IfOk result (λ c. c.number ≡ craft) }
     {
-        if !self.knows(q) {
-            return Some(Refusal::WrongClock);
+        self.knows(q)?;
+        let named = Craft::new(craft)?;
+        if !self.floor.is_entered(named) {
+            return Err(Refusal::NotEntered);
         }
-        if craft >= 64 {
-            return Some(Refusal::CraftRange);
-        }
-        if !self.floor.is_entered(craft) {
-            return Some(Refusal::NotEntered);
-        }
-        if room < 190 {
-            return Some(Refusal::Room);
-        }
-        None
+        room_for(190, room)?;
+        Ok(named)
     }
 
     /// A craft leaves; returns how many lines were written.
@@ -89,9 +76,9 @@ impl<B: FlightBook, Q: EventQueue> Hall<B, Q> {
     pub fn leave(&mut self, q: &Quiet, craft: u8, slip: &mut [u32]) -> Result<usize, Refusal>
         ensures { Wrote (changing (time_of q.now.at) (leaving craft) (length slip.old)) (state_of B.meaning Q.holds self.old) (state_of B.meaning Q.holds self.new) (done_told result) slip.old slip.new (count_told result) }
     {
-        if let Some(e) = self.refuses_leave(q, craft, slip.len()) {
-            return Err(e);
-        }
-        Ok(self.floor.leave(craft, slip, 0))
+        let craft = self.allows_leave(q, craft, slip.len())?;
+        let mut slip = Slip::new(slip);
+        self.floor.leave(craft, &mut slip);
+        Ok(slip.used)
     }
 }

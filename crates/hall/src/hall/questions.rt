@@ -1,5 +1,5 @@
 //! Questions, which change nothing.
-ghost use Rattle.std.specs.Prelude.{◌≡◌, length};
+ghost use Rattle.std.specs.Prelude.{length};
 ghost use Rattle.times.specs.Of.{time_of};
 ghost use Rattle.floor.specs.Of.{certificate_told};
 ghost use Rattle.model.specs.Calls.{touching, touches, listing, asking, certificate};
@@ -9,7 +9,8 @@ ghost use Rattle.hall.specs.ToldOn.{Listed};
 
 use crate::hall::{Hall, Quiet};
 use books::FlightBook;
-use queues::EventQueue;
+use fleet::Craft;
+use queues::{EventQueue, Slot};
 use runs::list_pairs;
 use times::{Moment, Refusal};
 
@@ -19,12 +20,8 @@ impl<B: FlightBook, Q: EventQueue> Hall<B, Q> {
     pub fn touching(&self, q: &Quiet, c: u8, d: u8) -> Result<bool, Refusal>
         ensures { Performed (touching (time_of q.now.at) c d) (state_of B.meaning Q.holds self.now) (state_of B.meaning Q.holds self.now) (answer_told touches result) }
     {
-        if !self.knows(q) {
-            return Err(Refusal::WrongClock);
-        }
-        if c >= 64 || d >= 64 {
-            return Err(Refusal::CraftRange);
-        }
+        self.knows(q)?;
+        let (c, d) = (Craft::new(c)?, Craft::new(d)?);
         if c == d {
             return Err(Refusal::SameCraft);
         }
@@ -39,9 +36,7 @@ impl<B: FlightBook, Q: EventQueue> Hall<B, Q> {
     pub fn list(&self, q: &Quiet, list: &mut [u16]) -> Result<usize, Refusal>
         ensures { Listed (listing (time_of q.now.at) (length list.old)) (state_of B.meaning Q.holds self.now) (done_told result) list.old list.new (count_told result) }
     {
-        if !self.knows(q) {
-            return Err(Refusal::WrongClock);
-        }
+        self.knows(q)?;
         list_pairs(&self.floor, list)
     }
 
@@ -49,9 +44,6 @@ impl<B: FlightBook, Q: EventQueue> Hall<B, Q> {
     pub fn certificate(&self, slot: u16) -> Result<Option<(u32, Option<Moment>)>, Refusal>
         ensures { Performed (asking slot) (state_of B.meaning Q.holds self.now) (state_of B.meaning Q.holds self.now) (answer_told (λ o. certificate (certificate_told o)) result) }
     {
-        if slot > 12351 {
-            return Err(Refusal::SlotRange);
-        }
-        Ok(self.floor.certificate(slot))
+        Ok(self.floor.certificate(Slot::new(slot)?))
     }
 }

@@ -1,36 +1,32 @@
 //! Steps and runs of a due clock.
-ghost use Rattle.std.specs.Prelude.{◌≡◌, length};
-ghost use Rattle.times.specs.Of.{time_of};
+ghost use Rattle.std.specs.Prelude.{◌≡◌, length, IfOk, Some};
+ghost use Rattle.times.specs.Of.{time_of, moment_of};
+ghost use Rattle.model.specs.Halls.{next_due};
 ghost use Rattle.model.specs.Calls.{stepping, running};
 ghost use Rattle.model.specs.Refusals.{refusal};
 ghost use Rattle.hall.specs.Of.{state_of};
 ghost use Rattle.hall.specs.Told.{refused_by, Wrote};
 ghost use Rattle.hall.specs.ToldOn.{step_told, step_count, Paged, run_told, run_lines, run_bytes, Back};
 
+use crate::hall::rows::room_for;
 use crate::hall::{Due, Hall};
 use books::FlightBook;
-use queues::EventQueue;
+use queues::{Entry, EventQueue};
 use runs::{Ran, Stepped, run, step};
+use slots::Slip;
 use times::Refusal;
 
 impl<B: FlightBook, Q: EventQueue> Hall<B, Q> {
-    /// The first row of the table that fits a step.
-    fn refuses_step(&self, d: &Due, room: usize) -> Option<Refusal>
-        ensures { refused_by result ≡ refusal (stepping (time_of d.now.at) (time_of d.now.goal) room) (state_of B.meaning Q.holds self.now) }
+    /// What is due first, or the first row of the table that fits.
+    fn allows_step(&self, d: &Due, room: usize) -> Result<Entry, Refusal>
+        ensures refused { refused_by result ≡ refusal (stepping (time_of d.now.at) (time_of d.now.goal) room) (state_of B.meaning Q.holds self.now) }
+        ensures due { IfOk result (λ f. next_due (time_of d.now.goal) (state_of B.meaning Q.holds self.now).hall ≡ Some (f.slot.number, moment_of f.moment)) }
     {
-        if !self.knows_due(d) {
-            return Some(Refusal::WrongClock);
-        }
-        if self.floor.due(d.goal).is_none() {
-            return Some(Refusal::NothingDue);
-        }
-        if room < 380 {
-            return Some(Refusal::Room);
-        }
-        if self.floor.left() < 190 {
-            return Some(Refusal::Numbers);
-        }
-        None
+        self.knows_due(d)?;
+        let due = self.floor.due(d.goal).ok_or(Refusal::NothingDue)?;
+        room_for(380, room)?;
+        self.numbers_for(190)?;
+        Ok(due)
     }
 
     /// Fires what is due first, and tells of it.
@@ -38,13 +34,9 @@ impl<B: FlightBook, Q: EventQueue> Hall<B, Q> {
     pub fn step(&mut self, d: &Due, slip: &mut [u32]) -> Result<Stepped, Refusal>
         ensures { Wrote (stepping (time_of d.now.at) (time_of d.now.goal) (length slip.old)) (state_of B.meaning Q.holds self.old) (state_of B.meaning Q.holds self.new) (step_told result) slip.old slip.new (step_count result) }
     {
-        if let Some(e) = self.refuses_step(d, slip.len()) {
-            return Err(e);
-        }
-        let Some(due) = self.floor.due(d.goal) else {
-            return Err(Refusal::NothingDue);
-        };
-        Ok(step(&mut self.floor, due.0, due.1, slip, 0))
+        let due = self.allows_step(d, slip.len())?;
+        let mut slip = Slip::new(slip);
+        Ok(step(&mut self.floor, due, &mut slip))
     }
 
     /// Steps until nothing is due by the goal, or room or numbers might not suffice for another step; refused for a wrong clock. The clock comes back.
@@ -57,8 +49,9 @@ impl<B: FlightBook, Q: EventQueue> Hall<B, Q> {
         ensures performed { Paged (running (time_of d.at) (time_of d.goal) (length slip.old) (length page.old)) (state_of B.meaning Q.holds self.old) (state_of B.meaning Q.holds self.new) (run_told result) slip.old slip.new (run_lines result) page.old page.new (run_bytes result) }
         ensures back { Back d result }
     {
-        if !self.knows_due(&d) {
-            return Err((d, Refusal::WrongClock));
+        // No plainer by `map_err`: its closure takes the clock, which is needed where there is no error.
+        if let Err(e) = self.knows_due(&d) {
+            return Err((d, e));
         }
         let ran = run(&mut self.floor, d.goal, slip, page);
         Ok((d, ran))

@@ -10,7 +10,7 @@ list_row-n-requires g c =
     let m : Hall = hall_of g.B.FlightBook.meaning g.Q.EventQueue.holds c.args.floor.now in
     let h = rows_room m c.loop-c.c (omega arith) in
     let i = c.loop-c.invariant.0 in
-    record { c = omega arith; room = omega arith }
+    omega arith
 
 pub loop-c-preserved : goal.loop-c-preserved
 loop-c-preserved g c =

@@ -8,4 +8,4 @@ use Rattle.runs.proofs.listing.list_row.Given as goal
 abbrev pub invariant-loop-d : goal.invariant-loop-d
 invariant-loop-d g l =
     let m = hall_of g.B.FlightBook.meaning g.Q.EventQueue.holds l.floor in
-    (l.end ≡ l.n + length (row_with m l.c (below l.d))) × (l.list ≡ written l.n (row_with m l.c (below l.d)) l.initial.list)
+    (l.end ≡ l.n + length (row_with m l.c.number (below l.d))) × (l.list ≡ written l.n (row_with m l.c.number (below l.d)) l.initial.list)

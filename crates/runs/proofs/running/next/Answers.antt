@@ -1,26 +1,16 @@
-use Rattle.std.proofs.Common.{ℕ, ltb, sym, ap, ◌∙◌}
-use Rattle.times.specs.Of.{time_of, moment_of}
-use Rattle.queues.specs.Meanings.{first_told}
-use Rattle.runs.proofs.Nexts.{nothing_due, no_room, no_numbers, goes_next}
+use Rattle.std.proofs.Common.{sym, ap, ◌∙◌, subst}
+use Rattle.times.specs.Of.{time_of}
+use Rattle.floor.specs.Of.{hall_of, due_told}
+use Rattle.runs.specs.declared.ended.Ended.{Ended}
+use Rattle.runs.specs.declared.ended.Ended.TheVariants.{NothingDue}
+use Rattle.runs.specs.Running.{ended_number, Stop}
+use Rattle.runs.proofs.Nexts.{nothing_due, nothing, stopped}
 use Rattle.runs.proofs.running.next.Goals as goal
 
-pub returns-in_default : goal.returns-in_default
-returns-in_default g c = nothing_due (time_of c.args.goal) c.args.lines c.args.bytes _ (sym c.due.ensures.value ∙ ap first_told c.in_default.is)
-
-pub returns-then-too_little : goal.returns-then-too_little
-returns-then-too_little g c =
-    no_room (time_of c.args.goal) c.args.lines c.args.bytes _ (c.in-Some.due.0, moment_of c.in-Some.due.1)
-    (sym c.due.ensures.value ∙ ap first_told c.in-Some.is) (sym c.too_little.ensures ∙ c.if-too_little.true)
-
-pub returns-then-too_few : goal.returns-then-too_few
-returns-then-too_few g c =
-    no_numbers (time_of c.args.goal) c.args.lines c.args.bytes _ (c.in-Some.due.0, moment_of c.in-Some.due.1)
-    (sym c.due.ensures.value ∙ ap first_told c.in-Some.is) (sym c.too_little.ensures ∙ c.if-too_little.false)
-    (ap (λ (n : ℕ). ltb n 190) (sym c.left.ensures) ∙ sym c.too_few.ensures ∙ c.if-too_few.true)
-
-pub returns : goal.returns
-returns g c =
-    goes_next (time_of c.args.goal) c.args.lines c.args.bytes _ (c.in-Some.due.0, moment_of c.in-Some.due.1)
-    (sym c.due.ensures.value ∙ ap first_told c.in-Some.is) (sym c.too_little.ensures ∙ c.if-too_little.false)
-    (ap (λ (n : ℕ). ltb n 190) (sym c.left.ensures) ∙ sym c.too_few.ensures ∙ c.if-too_few.false)
-    c.in-Some.ensures.below
+pub returns-in_err-due : goal.returns-in_err-due
+returns-in_err-due g c =
+    let m = hall_of g.B.FlightBook.meaning g.Q.EventQueue.holds c.args.floor.now in
+    let n = nothing c.due.result c.in_err-due.field-0.0 NothingDue c.in_err-due.ensures.value in
+    stopped _ _ c.from_residual.result c.in_err-due.field-0.0 c.from_residual.ensures.1
+    (subst (λ (e : Ended). Stop (time_of c.args.goal) c.args.lines c.args.bytes m (ended_number e)) n.1
+    (nothing_due (time_of c.args.goal) c.args.lines c.args.bytes m (sym c.due.ensures ∙ ap due_told n.0)))

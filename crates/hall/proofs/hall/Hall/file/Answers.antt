@@ -1,27 +1,31 @@
-use Rattle.std.proofs.Common.{sym, ap, ◌∙◌}
+use Rattle.std.proofs.Common.{ℕ, sym, refl, ap, rules}
 use Rattle.rules.specs.Books.{file}
-use Rattle.plans.specs.Of.{plan_of}
 use Rattle.rules.specs.Stamps.{at}
 use Rattle.times.specs.Of.{time_of, moment_of}
+use Rattle.plans.specs.Of.{plan_of}
 use Rattle.model.specs.Calls.{booking}
 use Rattle.hall.specs.Of.{state_of}
-use Rattle.hall.specs.Told.{refused_by}
-use Rattle.hall.proofs.Room.{booking_fits, file_low, change_fits_alike, change_wrote_alike}
+use Rattle.hall.proofs.Room.{booking_fits, change_fits_alike, change_wrote_alike}
 use Rattle.hall.proofs.Rows.{change_wrote}
+use Rattle.hall.proofs.Slips.{on_slip, from_slip}
 use Rattle.hall.proofs.hall.Hall.file.Goals as goal
 
 pub file-requires : goal.file-requires
 file-requires g c =
     let z = state_of g.B.FlightBook.meaning g.Q.EventQueue.holds c.args.self.now in
     let t = time_of c.args.q.now.at in
-    let x = (file c.args.craft (plan_of c.args.plan)) in
-    let e = sym c.refuses_file.ensures ∙ ap refused_by c.in_default.is in
-    record { c = file_low (time_of c.args.q.now.at) c.args.craft (plan_of c.args.plan) z c.args.slip.now e; fits = change_fits_alike x (at t) (moment_of c.at.result) z.hall c.args.slip.now c.at.ensures (booking_fits t x z c.args.slip.now e) }
+    let x = file c.args.craft (plan_of c.args.plan) in
+    let e = c.in_ok-craft.ensures in
+    on_slip _ _ c.new-slip.result c.args.slip.now c.new-slip.ensures.lines c.new-slip.ensures.used
+    (change_fits_alike x (file c.in_ok-craft.craft.number (plan_of c.args.plan)) (at t) (moment_of c.at.result) z.hall c.args.slip.now (ap (λ (i : ℕ). file i (plan_of c.args.plan)) e.craft) c.at.ensures
+    (booking_fits t x z c.args.slip.now (sym e.refused)))
 
 pub returns : goal.returns
 returns g c =
     let z = state_of g.B.FlightBook.meaning g.Q.EventQueue.holds c.args.self.now in
     let t = time_of c.args.q.now.at in
-    let x = (file c.args.craft (plan_of c.args.plan)) in
-    change_wrote t (booking x) z _ c.args.slip.now _ _ (sym c.refuses_file.ensures ∙ ap refused_by c.in_default.is)
-    (change_wrote_alike x (at t) (moment_of c.at.result) z.hall _ c.args.slip.now _ _ c.at.ensures c.file.ensures)
+    let x = file c.args.craft (plan_of c.args.plan) in
+    let e = c.in_ok-craft.ensures in
+    change_wrote t (booking x) z _ c.args.slip.now _ _ (sym e.refused)
+    (change_wrote_alike x (file c.in_ok-craft.craft.number (plan_of c.args.plan)) (at t) (moment_of c.at.result) z.hall _ c.args.slip.now _ _ (ap (λ (i : ℕ). file i (plan_of c.args.plan)) e.craft) c.at.ensures
+    (from_slip _ _ _ c.new-slip.result c.file.new.slip c.args.slip.now _ _ c.new-slip.ensures.lines c.new-slip.ensures.used (search rules) refl c.file.ensures))
