@@ -1,11 +1,11 @@
 -- Words from the left: spaces are passed, and a run up to a space is a word.
-use Rattle.std.proofs.Common.{◌≡◌, ℕ, ◌+◌, ◌-◌, ◌<◌, ◌≤◌, Bool, true, false, not, cond, eqb, List, [], ◌∷◌, ◌++◌, length, take, drop, position, Some, None, sym, refl, ap, ◌∙◌, ⊎_elim, append-nil, one-add, arith}
+use Rattle.std.proofs.Common.{◌≡◌, ℕ, zero, suc, ◌+◌, ◌-◌, ◌<◌, ◌≤◌, Bool, true, false, not, cond, eqb, List, [], ◌∷◌, ◌++◌, length, take, drop, get_or, slice_get, Option, Bor, position, Some, None, sym, refl, ap, ◌∙◌, ⊎_elim, append-nil, one-add, arith, length-append}
 use Rattle.std.proofs.lemmas.Grind.{common_steps}
 use Rattle.std.proofs.lemmas.Bool.{cases_Bool}
 use Rattle.std.proofs.lemmas.List.{take_rest, drop_all}
 use Rattle.std.proofs.lemmas.List.Sums.{prefix_len-le-length}
 use Rattle.std.specs.List.{position_or_len}
-use Rattle.std.specs.Option.{unwrap_or}
+use Rattle.std.specs.Option.{unwrap_or, option_map}
 use Rattle.console_text.specs.Texts.{place, keep, words_from, words}
 
 -- where a byte other than a space first stands, or the length
@@ -80,3 +80,29 @@ lost p bs e = grind (arith, common_steps)
 -- no word
 pub no_word : (bs : List ℕ) → None ≡ position (λ c. not (eqb c 32)) bs → words bs ≡ []
 no_word bs p = sym (words_skip bs) ∙ ap words (drop_all (start bs) bs (lost (λ c. not (eqb c 32)) bs p))
+
+keep_few : (run : List ℕ) (ws : List (List ℕ)) → length (keep run ws) ≤ length run + length ws
+keep_few [] ws = omega arith
+keep_few (c ∷ cs) ws = omega arith
+
+run_few : (run : List ℕ) (c : ℕ) (cs : List ℕ) → length (words cs) ≤ 0 + length cs → length (words_from (run ++ (c ∷ [])) cs) ≤ length run + 1 + length cs → length (words_from run (c ∷ cs)) ≤ length run + length (c ∷ cs)
+run_few run c cs p q = let k = keep_few run (words cs) in ⊎_elim (λ e. rw e (omega (arith, k))) (λ e. rw e (omega arith)) (cases_Bool (eqb c 32))
+
+from_few : (run bs : List ℕ) → length (words_from run bs) ≤ length run + length bs
+from_few run [] = keep_few run []
+from_few run (c ∷ cs) = run_few run c cs (from_few [] cs) (simp (length-append) at (from_few (run ++ (c ∷ [])) cs))
+
+-- no more words than bytes
+pub words_fit : (bs : List ℕ) → length (words bs) ≤ length bs
+words_fit bs = omega (arith, from_few [] bs)
+
+word_here : (ws : List (List ℕ)) (k : ℕ) (r : Option (Bor (List ℕ))) (none : Bor (List ℕ)) → option_map (λ x. x.now) r ≡ slice_get ws k → none.now ≡ [] → (unwrap_or r none).now ≡ get_or ws k []
+word_here [] k None none e h = h
+word_here [] k (Some x) none e h = cc
+word_here (w ∷ ws) zero None none e h = cc
+word_here (w ∷ ws) zero (Some x) none e h = cc
+word_here (w ∷ ws) (suc k) r none e h = word_here ws k r none e h
+
+-- word number k, or no bytes
+pub word_at : (ws : List (List ℕ)) (j k : ℕ) (r : Option (Bor (List ℕ))) (none : Bor (List ℕ)) → option_map (λ x. x.now) r ≡ slice_get ws j → none.now ≡ [] → j ≡ k → (unwrap_or r none).now ≡ get_or ws k []
+word_at ws j k r none e h i = word_here ws j r none e h ∙ ap (λ n. get_or ws n []) i

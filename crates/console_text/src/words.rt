@@ -1,5 +1,5 @@
 //! The words of a line.
-ghost use Rattle.std.specs.Prelude.{◌≡◌, ◌==◌, not, position};
+ghost use Rattle.std.specs.Prelude.{◌≡◌, ◌==◌, not, position, [], length, slice_index_or};
 ghost use Rattle.std.specs.Iterator.{YieldsFirstRef, item_count};
 ghost use Rattle.console_text.specs.Texts.{before_comment, words};
 
@@ -54,4 +54,18 @@ impl<'a> Iterator for Words<'a> {
         self.rest = rest;
         Some(word)
     }
+}
+
+/// How many words there are.
+pub fn count(bytes: &[u8]) -> usize
+    ensures { result ≡ length (words bytes.now) }
+{
+    Words::new(bytes).count()
+}
+
+/// Word number k from 0, or no bytes where there are not so many.
+pub fn word(bytes: &[u8], k: usize) -> &[u8]
+    ensures { result.now ≡ slice_index_or (words bytes.now) k [] }
+{
+    Words::new(bytes).nth(k).unwrap_or(&[])
 }
