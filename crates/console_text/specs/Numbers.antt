@@ -1,5 +1,6 @@
 -- Numbers and times as they may be written.
-use Rattle.std.specs.Prelude.{ℕ, ◌+◌, ◌-◌, ◌*◌, Bool, cond, ◌&&◌, List, [], ◌∷◌, length, take, drop, ℤ, pos, neg_ℤ, Some, None, Option, ◌==◌, nat_le, nat_lt, slice_index}
+use Rattle.std.specs.Prelude.{ℕ, ◌+◌, ◌-◌, ◌*◌, Bool, not, cond, ◌&&◌, ◌||◌, List, [], ◌∷◌, length, take, drop, ℤ, pos, neg_ℤ, Some, None, Option, ◌==◌, nat_le, nat_lt, slice_index}
+use Rattle.std.specs.List.{position_or_len}
 use Rattle.console_text.specs.Texts.{place}
 use Rattle.console_text.specs.declared.numbers.TimeText.{TimeText}
 
@@ -45,6 +46,18 @@ abbrev pub both : Option ℕ → Option ℕ → Option TimeText
 both None d = None
 both (Some n) None = None
 both (Some n) (Some d) = Some (record { n = n; d = d })
+
+-- one `+` or `-` may stand in front
+abbrev pub after_sign : List ℕ → List ℕ
+after_sign w = cond (slice_index w 0 == 43 || slice_index w 0 == 45) (drop 1 w) w
+
+-- what stands after leading zeros
+abbrev pub after_zeros : List ℕ → List ℕ
+after_zeros ds = drop (position_or_len (λ c. not (c == 48)) ds) ds
+
+-- more than ten bytes stand after the sign and the leading zeros
+abbrev pub is_too_long : List ℕ → Bool
+is_too_long w = nat_lt 10 (length (after_zeros (after_sign w)))
 
 -- a time N or N/D, in 32 and 16 bits; N is N/1
 abbrev pub time_in : List ℕ → Option TimeText
