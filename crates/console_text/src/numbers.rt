@@ -115,7 +115,7 @@ pub fn unsigned(word: &[u8], most: u32) -> Option<u32>
 }
 
 /// A time as it is written, N or N/D.
-#[derive(Clone, Copy, PartialEq, Eq, Debug)]
+#[derive(Clone, Copy, PartialEq, Eq, PartialOrd, Ord, Hash, Default, Debug)]
 pub struct TimeText {
     pub n: u32,
     pub d: u16,
