@@ -22,16 +22,25 @@ pub enum Stop {
     ClockIsDue,
 }
 
-impl fmt::Display for Stop {
-    ghost output = { λ stop. Some (stop_text stop) };
-
-    fn fmt<W: fmt::Write>(&self, f: &mut fmt::Formatter<W>) -> fmt::Result {
-        f.write_str(match self {
+impl Stop {
+    /// Why, in words.
+    pub fn as_str(self) -> &'static str
+        ensures { result.now ≡ stop_text self }
+    {
+        match self {
             Stop::NotOpen => "not open",
             Stop::AlreadyOpen => "already open",
             Stop::ClockIsQuiet => "clock is quiet",
             Stop::ClockIsDue => "clock is due",
-        })
+        }
+    }
+}
+
+impl fmt::Display for Stop {
+    ghost output = { λ stop. Some (stop_text stop) };
+
+    fn fmt<W: fmt::Write>(&self, f: &mut fmt::Formatter<W>) -> fmt::Result {
+        f.write_str(self.as_str())
     }
 }
 
