@@ -1,12 +1,12 @@
 -- Each command's words: how many there are, which are fixed, and how the others are read.
-use Rattle.std.specs.Prelude.{ℕ, ◌+◌, ◌*◌, ◌/◌, ◌%◌, cond, ◌&&◌, List, [], ◌∷◌, length, map, drop, ℤ, Some, None, codes, Option, ◌==◌, nat_le, slice_index_or}
-use Rattle.std.specs.Borrow.{Bor}
-use Rattle.std.specs.Simd.{first_chunks}
+use Rattle.std.specs.Prelude.{ℕ, zero, suc, ◌-◌, cond, List, [], ◌∷◌, ◌++◌, length, take, drop, replicate, min, ℤ, pos, Some, None, codes, Option, ◌==◌, slice_index_or}
 use Rattle.std.specs.Str.{bytes_eq}
-use Rattle.arrayvec.specs.ArrayVec.{ArrayVec}
 use Rattle.fleet.specs.declared.axes.Xyz.{Xyz}
 use Rattle.console_text.specs.Numbers.{unsigned_in, signed_in, time_in}
+use Rattle.console_text.specs.Texts.{words}
+use Rattle.console_text.specs.declared.words.Words.{Words as WordsLeft}
 use Rattle.console_read.specs.Keywords.{book_of, queue_of}
+use Rattle.console_read.specs.declared.command.Filing.{Filing}
 use Rattle.console_read.specs.declared.command.LegText.{LegText}
 use Rattle.console_read.specs.declared.command.Command.{Command}
 use Rattle.console_read.specs.declared.command.Command.TheVariants.{Open, Room, File, Ride, Enter, Leave, Set, Touching, Certificate, Leg, Follows}
@@ -15,9 +15,9 @@ use Rattle.console_read.specs.declared.command.Command.TheVariants.{Open, Room, 
 abbrev pub Words : Type 0
 Words = List (List ℕ)
 
--- the words that references point to
-abbrev pub texts : List (Bor (List ℕ)) → Words
-texts ws = map (λ w. w.now) ws
+-- the words that are left
+abbrev pub left : WordsLeft → Words
+left ws = words ws.rest.now
 
 -- word number k from 0
 abbrev pub at : Words → ℕ → List ℕ
@@ -32,6 +32,10 @@ and_then (Some x) f = f x
 abbrev pub of_words : ℕ → Words → Option Command → Option Command
 of_words n ws o = cond (length ws == n) o None
 
+-- whether no word is left
+abbrev pub ended_of : Words → Option (Unit {0})
+ended_of ws = cond (length ws == 0) (Some tt) None
+
 -- the widths
 abbrev pub byte_at : Words → ℕ → Option ℕ
 byte_at ws k = unsigned_in 255 (at ws k)
@@ -44,6 +48,9 @@ size_at ws k = unsigned_in 1000000 (at ws k)
 
 abbrev pub speed_at : Words → ℕ → Option ℤ
 speed_at ws k = signed_in 32768 32767 (at ws k)
+
+abbrev pub coordinate_at : Words → ℕ → Option ℤ
+coordinate_at ws k = signed_in 2147483648 2147483647 (at ws k)
 
 -- a value on each axis
 abbrev pub xyz_of : {T : Type 0} → Option T → Option T → Option T → Option (Xyz T)
@@ -106,34 +113,41 @@ leg_text ws = cond (bytes_eq (at ws 0) (codes "leg"))
     (and_then (short_at ws 1) (λ t. and_then (xyz_of (speed_at ws 2) (speed_at ws 3) (speed_at ws 4)) (λ v. Some (record { start = t; speed = v }))))
     None
 
--- one leg after another
-abbrev pub legs_text : List Words → Option (List LegText)
-legs_text [] = Some []
-legs_text (w ∷ ws) = and_then (leg_text w) (λ l. and_then (legs_text ws) (λ ls. Some (l ∷ ls)))
+-- end E, where no word stands after it
+abbrev pub end_text : Words → Option ℕ
+end_text ws = cond (length ws == 2) (short_at ws 1) None
 
--- at most 20 legs
-abbrev pub legs_made : List Words → Option (ArrayVec LegText)
-legs_made ws = cond (nat_le (length ws) 20) (and_then (legs_text ws) (λ ls. Some (record { items = ls }))) None
+-- the end where `end` stands, else what is read otherwise
+abbrev pub end_or : Words → Option (List LegText × ℕ) → Option (List LegText × ℕ)
+end_or ws o = cond (bytes_eq (at ws 0) (codes "end")) (and_then (end_text ws) (λ e. Some ([], e))) o
 
--- the words of the legs, five by five, and that of the end, which stands after `end`
-unfoldable pub pieces_of : Words → Option (List Words × List ℕ)
-pieces_of ws = cond (length ws % 5 == 2 && bytes_eq (at ws (5 * (length ws / 5))) (codes "end"))
-    (Some (first_chunks 5 (length ws / 5) ws, at ws (5 * (length ws / 5) + 1)))
-    None
+-- one leg after another, at most n, and then the end
+unfoldable pub legs_text : ℕ → Words → Option (List LegText × ℕ)
+legs_text zero ws = end_or ws None
+legs_text (suc n) ws = end_or ws (and_then (leg_text ws) (λ l. and_then (legs_text n (drop 5 ws)) (λ p. Some (l ∷ p.0, p.1))))
 
-abbrev pub pieces_told : Option (Bor (List (List (Bor (List ℕ)))) × Bor (List ℕ)) → Option (List Words × List ℕ)
-pieces_told None = None
-pieces_told (Some p) = Some (map texts p.0.now, p.1.now)
+-- what stands in the table past the legs given
+abbrev pub blank : LegText
+blank = record { start = 0; speed = record { x = pos 0; y = pos 0; z = pos 0 } }
 
--- a plan of its four parts
-abbrev pub plan_of : Option ℕ → Option (Xyz ℤ) → Option (ArrayVec LegText) → Option ℕ → Option Command
-plan_of oc op ol oe = and_then oc (λ c. and_then op (λ p. and_then ol (λ ls. and_then oe (λ e. Some (File (record { craft = c; at = p; legs = ls; end = e }))))))
+-- a table of 20, the legs given in front
+abbrev pub table : List LegText → List LegText
+table ls = ls ++ replicate (20 - length ls) blank
 
--- the words of the craft and of its place, and those after them
-unfoldable pub filing_of : List ℕ → List ℕ → List ℕ → List ℕ → Words → Option Command
-filing_of c x y z ws = and_then (pieces_of ws) (λ p.
-    plan_of (unsigned_in 255 c) (xyz_of (signed_in 2147483648 2147483647 x) (signed_in 2147483648 2147483647 y) (signed_in 2147483648 2147483647 z)) (legs_made p.0) (unsigned_in 65535 p.1))
+-- the legs of a table that are given
+abbrev pub legs_given : Filing → List LegText
+legs_given f = take (min f.count 20) f.legs
+
+-- a plan of its parts
+abbrev pub plan_of : ℕ → Xyz ℤ → List LegText × ℕ → Command
+plan_of c p q = File (record { craft = c; at = p; legs = table q.0; count = length q.0; end = q.1 })
+
+-- at most 20 legs, and the end
+abbrev pub plan_from : ℕ → Xyz ℤ → Words → Option Command
+plan_from c p ws = and_then (legs_text 20 ws) (λ q. Some (plan_of c p q))
 
 -- file C at X Y Z, and what stands after
 abbrev pub file_of : Words → Option Command
-file_of ws = cond (bytes_eq (at ws 2) (codes "at")) (filing_of (at ws 1) (at ws 3) (at ws 4) (at ws 5) (drop 6 ws)) None
+file_of ws = cond (bytes_eq (at ws 2) (codes "at"))
+    (and_then (byte_at ws 1) (λ c. and_then (xyz_of (coordinate_at ws 3) (coordinate_at ws 4) (coordinate_at ws 5)) (λ p. plan_from c p (drop 6 ws))))
+    None

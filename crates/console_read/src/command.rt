@@ -1,5 +1,7 @@
 //! The commands of the console, with their arguments.
-use arrayvec::ArrayVec;
+ghost use Rattle.std.specs.Prelude.{◌≡◌};
+ghost use Rattle.console_read.specs.Shapes.{legs_given};
+
 use console_text::TimeText;
 use fleet::Xyz;
 
@@ -27,17 +29,28 @@ pub struct LegText {
 /// As many legs may be written in a plan.
 pub const MOST_LEGS: usize = 20;
 
-/// A plan as it is written.
-#[derive(Clone, PartialEq, Eq, Debug, Drop)]
+/// A plan as it is written: the first `count` of the legs are given.
+// The legs stand in a table with their count, since a list of the kit's is not `Copy`.
+#[derive(Clone, Copy, PartialEq, Eq, Debug)]
 pub struct Filing {
     pub craft: u8,
     pub at: Xyz<i32>,
-    pub legs: ArrayVec<LegText, MOST_LEGS>,
+    pub legs: [LegText; MOST_LEGS],
+    pub count: u8,
     pub end: u16,
 }
 
+impl Filing {
+    /// The legs that are given.
+    pub fn legs(&self) -> &[LegText]
+        ensures { result.now ≡ legs_given self.now }
+    {
+        &self.legs[..MOST_LEGS.min(usize::from(self.count))]
+    }
+}
+
 /// A command with its arguments.
-#[derive(Clone, PartialEq, Eq, Debug, Drop)]
+#[derive(Clone, Copy, PartialEq, Eq, Debug)]
 pub enum Command {
     Open {
         book: Book,

@@ -1,14 +1,13 @@
 //! What a line is read as.
-ghost use Rattle.std.specs.Prelude.{◌≡◌, ◌<◌, length, Some, codes, MatchOption};
-ghost use Rattle.console_text.specs.Texts.{words};
-ghost use Rattle.console_read.specs.Shapes.{texts};
+ghost use Rattle.std.specs.Prelude.{◌≡◌, ℕ, List, ◌∷◌, Some, codes};
+ghost use Rattle.console_read.specs.Shapes.{left};
 ghost use Rattle.console_read.specs.Parsing.{alone_of, command_of, parsed_of};
 
 use crate::command::Command;
 use crate::keyword::Keyword;
 use crate::legs::file;
 use crate::shapes;
-use arrayvec::ArrayVec;
+use crate::shapes::ended;
 use console_text::Words;
 use console_text::words::before_comment;
 use std::error::Error;
@@ -29,51 +28,35 @@ impl fmt::Display for Unreadable {
 impl Error for Unreadable {}
 
 /// A command of one word.
-fn alone(words: &[&[u8]], command: Command) -> Option<Command>
-    ensures { result ≡ alone_of (texts words.now) command }
+fn alone(rest: Words<'_>, command: Command) -> Option<Command>
+    ensures { (first : List ℕ) → result ≡ alone_of (first ∷ left rest.entry) command }
 {
-    match words {
-        [_] => Some(command),
-        _ => None,
-    }
+    ended(rest)?;
+    Some(command)
 }
 
-/// The command of a keyword.
-fn command(key: Keyword, words: &[&[u8]]) -> Option<Command>
-    ensures { result ≡ command_of key (texts words.now) }
+/// The command of a keyword, from the words after it.
+fn command(key: Keyword, rest: Words<'_>) -> Option<Command>
+    ensures { (first : List ℕ) → result ≡ command_of key (first ∷ left rest.entry) }
 {
     match key {
-        Keyword::Open => shapes::open(words),
-        Keyword::Room => shapes::room(words),
-        Keyword::File => file(words),
-        Keyword::Ride => shapes::ride(words),
-        Keyword::Enter => shapes::enter(words),
-        Keyword::Leave => shapes::leave(words),
-        Keyword::Set => shapes::set(words),
-        Keyword::Step => alone(words, Command::Step),
-        Keyword::Run => alone(words, Command::Run),
-        Keyword::Rest => alone(words, Command::Rest),
-        Keyword::Touching => shapes::touching(words),
-        Keyword::List => alone(words, Command::List),
-        Keyword::Certificate => shapes::certificate(words),
-        Keyword::Leg => shapes::leg(words),
-        Keyword::Follows => shapes::follows(words),
-        Keyword::Cues => alone(words, Command::Cues),
+        Keyword::Open => shapes::open(rest),
+        Keyword::Room => shapes::room(rest),
+        Keyword::File => file(rest),
+        Keyword::Ride => shapes::ride(rest),
+        Keyword::Enter => shapes::enter(rest),
+        Keyword::Leave => shapes::leave(rest),
+        Keyword::Set => shapes::set(rest),
+        Keyword::Step => alone(rest, Command::Step),
+        Keyword::Run => alone(rest, Command::Run),
+        Keyword::Rest => alone(rest, Command::Rest),
+        Keyword::Touching => shapes::touching(rest),
+        Keyword::List => alone(rest, Command::List),
+        Keyword::Certificate => shapes::certificate(rest),
+        Keyword::Leg => shapes::leg(rest),
+        Keyword::Follows => shapes::follows(rest),
+        Keyword::Cues => alone(rest, Command::Cues),
     }
-}
-
-/// No command has more words: a plan of 20 legs has as many.
-const MOST_WORDS: usize = 108;
-
-/// The words of a text, or none where there are more than a command has.
-fn listed(text: &[u8]) -> Option<ArrayVec<&[u8], MOST_WORDS>>
-    ensures { MatchOption result (108 < length (words text.now)) (λ ws. texts ws.items ≡ words text.now) }
-{
-    let mut words = ArrayVec::new();
-    for word in Words::new(text) {
-        words.try_push(word).ok()?;
-    }
-    Some(words)
 }
 
 /// Reads a line, given without its end; one without a word is no command. One longer than 1,000 bytes, spaces and
@@ -84,13 +67,11 @@ pub fn parse(line: &[u8]) -> Result<Option<Command>, Unreadable>
     if line.len() > 1000 {
         return Err(Unreadable);
     }
-    let words = listed(before_comment(line)).ok_or(Unreadable)?;
-    match words.as_slice() {
-        [] => Ok(None),
-        [first, ..] => {
-            let key = Keyword::try_from(*first)?;
-            let command = command(key, words.as_slice()).ok_or(Unreadable)?;
-            Ok(Some(command))
-        }
-    }
+    let mut words = Words::new(before_comment(line));
+    let Some(first) = words.next() else {
+        return Ok(None);
+    };
+    let key = Keyword::try_from(first)?;
+    let command = command(key, words).ok_or(Unreadable)?;
+    Ok(Some(command))
 }

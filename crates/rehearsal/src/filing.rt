@@ -22,7 +22,7 @@ pub fn plan(filing: &Filing) -> Plan
     ensures { plan_of result ≡ typed_plan filing.now }
 {
     let mut plan = Plan::new(filing.at, filing.end);
-    let legs = filing.legs.as_slice();
+    let legs = filing.legs();
     for text in legs {
         plan.push_leg(leg(*text));
     }
