@@ -38,15 +38,17 @@ def functions(path):
 
 
 def edits(folder):
+    """(label, file, pairs of old and new text) of every edit; a later pair applies to what the earlier ones made."""
     for edit in sorted(folder.glob('*.edit')):
-        name, old = None, None
+        name, old, pairs = None, None, []
         for line in edit.read_text().split('\n'):
             if line.startswith('file: '):
                 name = line[6:]
             elif line.startswith('old: '):
                 old = line[5:]
             elif line.startswith('new:'):
-                yield edit.stem, name, old
+                pairs.append((old, line[5:]))
+        yield edit.stem, name, pairs
 
 
 def main(names):
@@ -59,19 +61,21 @@ def main(names):
         table = {str(p.relative_to(base)): functions(p) for p in sorted((base / 'src').rglob('*.rt'))}
         touched = {'must-fail': set(), 'planted': set()}
         for kind in touched:
-            for label, name, old in edits(base / kind):
+            for label, name, pairs in edits(base / kind):
                 if name not in table:
                     print(f'{crate}/{kind}/{label}: no such file {name}')
                     continue
                 found, lines = table[name]
                 text = '\n'.join(lines)
-                if text.count(old) != 1:
-                    print(f'{crate}/{kind}/{label}: its old text stands {text.count(old)} times in {name}')
-                    continue
-                at = text[:text.index(old)].count('\n')
-                for fn, first, last, public in found:
-                    if first <= at <= last:
-                        touched[kind].add((name, fn, first))
+                for old, new in pairs:
+                    if text.count(old) != 1:
+                        print(f'{crate}/{kind}/{label}: its old text stands {text.count(old)} times in {name}')
+                        break
+                    at = text[:text.index(old)].count('\n')
+                    text = text.replace(old, new)
+                    for fn, first, last, public in found:
+                        if first <= at <= last:
+                            touched[kind].add((name, fn, first))
         for name, (found, _) in table.items():
             for fn, first, last, public in found:
                 if public and (name, fn, first) not in touched['must-fail']:

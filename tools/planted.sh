@@ -17,13 +17,18 @@ for crate in "$@"; do
     file=$(sed -n 's/^file: //p' "$edit")
     path="$copy/crates/$crate/$file"
     cp "$path" "$copy/kept"
-    if ! OLD=$(sed -n 's/^old: //p' "$edit") NEW=$(sed -n 's/^new: //p' "$edit") python3 - "$path" <<'PY'
-import os, sys
-path, old, new = sys.argv[1], os.environ['OLD'], os.environ['NEW']
-text = open(path).read()
-if text.count(old) != 1:
-    sys.exit('the old text stands there %d times' % text.count(old))
-open(path, 'w').write(text.replace(old, new))
+    if ! python3 - "$edit" "$path" <<'PY'
+import sys
+edit, path = sys.argv[1:]
+text, old = open(path).read(), None
+for line in open(edit).read().split('\n'):
+    if line.startswith('old: '):
+        old = line[5:]
+    elif line.startswith('new: '):
+        if text.count(old) != 1:
+            sys.exit('the old text stands there %d times' % text.count(old))
+        text = text.replace(old, line[5:])
+open(path, 'w').write(text)
 PY
     then
       echo "$crate/$(basename "$edit" .edit): BAD EDIT"
