@@ -68,6 +68,6 @@ pub fn mix(sum: u64, number: u64) -> u64 {
 pub fn mix_entry(sum: u64, slot: u16, moment: Moment) -> u64 {
     let sides = u64::from(moment.time.denominator()) * 2 + u64::from(moment.after);
     [u64::from(slot), u64::from(moment.time.numerator()), sides]
-        .into_iter()
-        .fold(sum, mix)
+        .iter()
+        .fold(sum, |sum, number| mix(sum, *number))
 }
