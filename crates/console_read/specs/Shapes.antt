@@ -1,5 +1,5 @@
 -- Each command's words: how many there are, which are fixed, and how the others are read.
-use Rattle.std.specs.Prelude.{ℕ, zero, suc, ◌-◌, cond, List, [], ◌∷◌, ◌++◌, length, take, drop, replicate, min, ℤ, pos, Some, None, codes, Option, ◌==◌, slice_index_or}
+use Rattle.std.specs.Prelude.{ℕ, zero, suc, ◌-◌, ◌%◌, Bool, cond, ◌&&◌, List, [], ◌∷◌, ◌++◌, length, take, drop, replicate, min, ℤ, pos, Some, None, codes, Option, ◌==◌, nat_le, slice_index_or}
 use Rattle.std.specs.Str.{bytes_eq}
 use Rattle.fleet.specs.declared.axes.Xyz.{Xyz}
 use Rattle.console_text.specs.Numbers.{unsigned_in, signed_in, time_in}
@@ -125,6 +125,10 @@ end_or ws o = cond (bytes_eq (at ws 0) (codes "end")) (and_then (end_text ws) (�
 unfoldable pub legs_text : ℕ → Words → Option (List LegText × ℕ)
 legs_text zero ws = end_or ws None
 legs_text (suc n) ws = end_or ws (and_then (leg_text ws) (λ l. and_then (legs_text n (drop 5 ws)) (λ p. Some (l ∷ p.0, p.1))))
+
+-- so many words has a plan of 0 to 20 legs, its first word with them
+abbrev pub is_plan_long : ℕ → Bool
+is_plan_long n = nat_le 8 n && nat_le n 108 && n % 5 == 3
 
 -- what stands in the table past the legs given
 abbrev pub blank : LegText

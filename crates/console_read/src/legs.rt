@@ -1,12 +1,36 @@
 //! `file C at X Y Z`, then legs of 5 words each, then `end E`.
-ghost use Rattle.std.specs.Prelude.{◌≡◌, ℕ, List, ◌∷◌, drop, IfSome};
-ghost use Rattle.console_read.specs.Shapes.{left, leg_text, plan_from, file_of};
+ghost use Rattle.std.specs.Prelude.{◌≡◌, ◌≤◌, ℕ, List, ◌∷◌, length, drop, IfSome};
+ghost use Rattle.console_text.specs.Texts.{words};
+ghost use Rattle.console_read.specs.Shapes.{left, leg_text, plan_from, file_of, is_plan_long};
 
 use crate::command::{Command, Filing, LegText, MOST_LEGS};
 use crate::shapes::{ended, xyz};
 use console_text::Words;
 use console_text::numbers::number;
 use fleet::Xyz;
+
+/// How many words a text of at most 1,000 bytes has: each begins at a byte other than a space, after a space or at the start.
+fn count(text: &[u8]) -> u16
+    requires { length text.now ≤ 1000 }
+    ensures { result ≡ length (words text.now) }
+{
+    let mut n = 0;
+    let mut last = b' ';
+    for byte in text {
+        n += u16::from(last == b' ' && *byte != b' ');
+        last = *byte;
+    }
+    n
+}
+
+/// Whether a text has as many words as a plan of 0 to 20 legs: so one of more or fewer is refused before its numbers are read.
+pub fn may_file(text: &[u8]) -> bool
+    requires { length text.now ≤ 1000 }
+    ensures { result ≡ is_plan_long (length (words text.now)) }
+{
+    let n = count(text);
+    n >= 8 && n <= 108 && n % 5 == 3
+}
 
 /// `leg T VX VY VZ`, from its first word on.
 fn leg(word: &[u8], rest: &mut Words<'_>) -> Option<LegText>

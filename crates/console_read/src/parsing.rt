@@ -5,7 +5,7 @@ ghost use Rattle.console_read.specs.Parsing.{alone_of, command_of, parsed_of};
 
 use crate::command::Command;
 use crate::keyword::Keyword;
-use crate::legs::file;
+use crate::legs::{file, may_file};
 use crate::shapes;
 use crate::shapes::ended;
 use console_text::Words;
@@ -67,11 +67,15 @@ pub fn parse(line: &[u8]) -> Result<Option<Command>, Unreadable>
     if line.len() > 1000 {
         return Err(Unreadable);
     }
-    let mut words = Words::new(before_comment(line));
+    let text = before_comment(line);
+    let mut words = Words::new(text);
     let Some(first) = words.next() else {
         return Ok(None);
     };
     let key = Keyword::try_from(first)?;
+    if matches!(key, Keyword::File) && !may_file(text) {
+        return Err(Unreadable);
+    }
     let command = command(key, words).ok_or(Unreadable)?;
     Ok(Some(command))
 }
