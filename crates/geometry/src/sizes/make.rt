@@ -43,7 +43,7 @@ impl HalfSizes {
     }
 
     /// How far the box reaches on an axis.
-    pub(crate) fn reach(self, axis: Axis) -> Reach
+    pub fn reach(self, axis: Axis) -> Reach
         ensures { result.half ≡ (box_of self).half (axis_of axis) }
     {
         self.each.on(axis)
