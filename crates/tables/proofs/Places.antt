@@ -2,9 +2,10 @@
 use Rattle.std.proofs.Common.{◌≡◌, ℕ, zero, suc, Bool, false, get_or, replicate, Some, None, Option, unwrap_or, pos, refl, ap, ap₂, ◌∙◌, arith}
 use mathlib.Core.Path.{fun_ext}
 use Rattle.rules.specs.Basics.{the}
-use Rattle.rules.specs.Paths.{Axis, X, Y, Z, xyz}
+use Rattle.rules.specs.Paths.{Axis, Line, X, Y, Z, xyz}
 use Rattle.rules.specs.Boxes.{Box}
-use Rattle.geometry.specs.Of.{sizes}
+use Rattle.geometry.specs.Of.{box_of, sizes}
+use Rattle.geometry.specs.declared.sizes.HalfSizes.{HalfSizes}
 use Rattle.model.specs.Halls.{Craft}
 use Rattle.model.specs.Moves.{nobody}
 use Rattle.tables.specs.declared.craft.CraftRecord.{CraftRecord}
@@ -25,6 +26,13 @@ least_box b e = e ∙ ap (λ (h : Axis → ℕ). record { half = h }) (xyz_same 
 
 pub at_rest : (b : Box) → b ≡ nobody.box → with_legs b (xyz (record { base = pos 0; slope = pos 0 }) (record { base = pos 0; slope = pos 0 }) (record { base = pos 0; slope = pos 0 })) ≡ nobody
 at_rest b e = ap₂ with_legs e (xyz_same (record { base = pos 0; slope = pos 0 }))
+
+-- half sizes with a box's reaches are that box
+pub same_box : (k b : HalfSizes) (x y z : ℕ) → box_of k ≡ sizes x y z → x ≡ b.each.x.half → y ≡ b.each.y.half → z ≡ b.each.z.half → box_of k ≡ box_of b
+same_box k b x y z e f g h = rw (f, g, h) at e
+
+pub same_record : (a b : Box) (l : Axis → Line) → a ≡ b → with_legs a l ≡ with_legs b l
+same_record a b l e = ap (λ (c : Box). with_legs c l) e
 
 getD_same : {A : Type 0} (n : ℕ) (d : A) (k : ℕ) → get_or (replicate n d) k d ≡ d
 getD_same zero d k = refl
