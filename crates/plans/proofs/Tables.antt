@@ -92,3 +92,7 @@ break_or_end w (l ∷ ls) end = by (ltb w l.start) _ _ _ (break_or_end w ls end)
     by : (b : Bool) (o p q : Option ℕ) → option_or o p ≡ q → option_or (cond b (Some l.start) o) p ≡ cond b (Some l.start) q
     by true o p q e = refl
     by false o p q e = e
+
+-- the first start above a tick, of legs and a tick that are equal
+pub starts_same : (i j : ℕ) (ls ks : List Leg) (o : Option ℕ) → o ≡ find (λ k. ltb j k) (map (λ (l : Leg). l.start) ks) → j ≡ i → ks ≡ ls → o ≡ find (λ k. ltb i k) (map (λ (l : Leg). l.start) ls)
+starts_same i j ls ks o e f g = rw (f, g) at e
