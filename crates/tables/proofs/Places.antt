@@ -27,7 +27,7 @@ least_box b e = e ∙ ap (λ (h : Axis → ℕ). record { half = h }) (xyz_same 
 pub at_rest : (b : Box) → b ≡ nobody.box → with_legs b (xyz (record { base = pos 0; slope = pos 0 }) (record { base = pos 0; slope = pos 0 }) (record { base = pos 0; slope = pos 0 })) ≡ nobody
 at_rest b e = ap₂ with_legs e (xyz_same (record { base = pos 0; slope = pos 0 }))
 
--- half sizes with a box's reaches are that box
+-- half sizes with a box's reaches are that box: for bodies that make them anew, reach by reach
 pub same_box : (k b : HalfSizes) (x y z : ℕ) → box_of k ≡ sizes x y z → x ≡ b.each.x.half → y ≡ b.each.y.half → z ≡ b.each.z.half → box_of k ≡ box_of b
 same_box k b x y z e f g h = rw (f, g, h) at e
 
