@@ -33,10 +33,10 @@ lies_some : (o : Option Moment) (b : ℕ) → lies o b ≡ true → (m : Moment)
 lies_some None b h = absurd (both_ways _ (lies_none b) h)
 lies_some (Some m) b h = (m, refl)
 
-pub agree_prop : (ms : List (Option Moment)) (ns : List (Option Slot)) (es : List (Option Entry)) (x y : Agree ms ns es) → x ≡ y
+pub agree_prop : (ms : List (Option Moment)) (ns : List ℕ) (es : List (Option Entry)) (x y : Agree ms ns es) → x ≡ y
 agree_prop ms ns es = Π_prop (λ b. →_prop (entries_set _ _))
 
-module _ (ms : List (Option Moment)) (ns : List (Option Slot)) (es : List (Option Entry)) (held : length ms ≡ 12352) (linked : Linked ms ns) (matched : Matched es) (agree : Agree ms ns es) where
+module _ (ms : List (Option Moment)) (ns : List ℕ) (es : List (Option Entry)) (held : length ms ≡ 12352) (linked : Linked ms ns) (matched : Matched es) (agree : Agree ms ns es) where
   -- of each slot's bucket the first entry stands in a leaf, and the slot is not ahead of it
   in_leaf : (k : ℕ) (m : Moment) → table ms k ≡ Some m → (e : Entry) × ((node es (128 + bucket m) ≡ Some e) × (ahead (k, m) (key e) ≡ false))
   in_leaf k m h =
@@ -110,12 +110,12 @@ stored_usual (Some m) n e =
 pub kept_held : (ms : List (Option Moment)) → length ms ≡ 12352 → Held (kept_in ms)
 kept_held ms e = held_by (kept_in ms) (kept_within ms e) (λ k. stored_usual (table ms k))
 
-pub first_is : (ms : List (Option Moment)) (ns : List (Option Slot)) (es : List (Option Entry)) → length ms ≡ 12352 → Linked ms ns → Matched es → Agree ms ns es → (x : Option Entry) → x ≡ node es 1 → told x ≡ soonest (kept_in ms)
+pub first_is : (ms : List (Option Moment)) (ns : List ℕ) (es : List (Option Entry)) → length ms ≡ 12352 → Linked ms ns → Matched es → Agree ms ns es → (x : Option Entry) → x ≡ node es 1 → told x ≡ soonest (kept_in ms)
 first_is ms ns es held linked matched agree x e =
     first_only (kept_in ms) (kept_held ms held) (told x) (is_first ms ns es held linked matched agree x e)
 
 -- the leaves after the bucket c was changed and entered anew, under the number i
-pub agree_after : (ms us : List (Option Moment)) (ns vs : List (Option Slot)) (es fs : List (Option Entry)) (i c : ℕ) → i ≡ c → Agree ms ns es →
+pub agree_after : (ms us : List (Option Moment)) (ns vs : List ℕ) (es fs : List (Option Entry)) (i c : ℕ) → i ≡ c → Agree ms ns es →
     ((b : ℕ) → b < 128 → (b ≢ c) → head_of us vs b ≡ head_of ms ns b) →
     ((b : ℕ) → b < 128 → node fs (128 + b) ≡ cond (b == i) (head_of us vs i) (node es (128 + b))) → Agree us vs fs
 agree_after ms us ns vs es fs i c e agree others fresh b l =

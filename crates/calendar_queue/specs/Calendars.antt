@@ -16,7 +16,7 @@ abbrev pub kept_in : List (Option Moment) → Queue
 kept_in ms k = stored (table ms k)
 
 -- each leaf holds the first entry of its bucket
-abbrev pub Agree : List (Option Moment) → List (Option Slot) → List (Option Entry) → Type 0
+abbrev pub Agree : List (Option Moment) → List ℕ → List (Option Entry) → Type 0
 Agree ms ns es = (b : ℕ) → b < 128 → node es (128 + b) ≡ head_of ms ns b
 
 -- an entry as a value

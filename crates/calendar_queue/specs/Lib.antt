@@ -1,5 +1,6 @@
 pub mod Entries
 pub mod Links
+pub mod Numbers
 pub mod Heads
 pub mod Crowns
 pub mod Calendars

@@ -23,7 +23,7 @@ follows_prop t b p n x y i = record {
   least = Π_prop (λ j. →_prop (→_prop (Bool-set _ _))) x.least y.least i;
 }
 
-pub linked_prop : (ms : List (Option Moment)) (ns : List (Option Slot)) (x y : Linked ms ns) → x ≡ y
+pub linked_prop : (ms : List (Option Moment)) (ns : List ℕ) (x y : Linked ms ns) → x ≡ y
 linked_prop ms ns = Π_prop (λ p. Π_prop (λ b. →_prop (→_prop (follows_prop (table ms) b p (links ns p)))))
 
 pub table_bounded : (ms : List (Option Moment)) → length ms ≡ 12352 → Bounded (table ms)

@@ -3,7 +3,7 @@ ghost use Rattle.std.specs.Prelude.{◌≡◌, ℕ, ◌<◌, Some, None, slice_s
 ghost use Rattle.calendar_queue.specs.Links.{table};
 ghost use Rattle.calendar_queue.specs.Heads.{head_of, OtherHeads};
 
-use crate::lists::{Lists, PLACES};
+use crate::lists::{Lists, NO_SLOT, PLACES};
 use queues::{Entry, SLOTS};
 
 impl Lists {
@@ -14,7 +14,7 @@ impl Lists {
     {
         Lists {
             moments: [None; SLOTS],
-            next: [None; PLACES],
+            next: [NO_SLOT; PLACES],
         }
     }
 
@@ -27,7 +27,7 @@ impl Lists {
         let place = self.seek(entry);
         let slot = entry.slot.place();
         self.next[slot] = self.next[place];
-        self.next[place] = Some(entry.slot);
+        self.next[place] = entry.slot.number;
         self.moments[slot] = Some(entry.moment);
     }
 

@@ -1,6 +1,6 @@
 //! Finding the place of an entry in its bucket.
 ghost use Rattle.std.specs.Prelude.{◌≡◌, ◌<◌};
-ghost use Rattle.calendar_queue.specs.Links.{table, Sought};
+ghost use Rattle.calendar_queue.specs.Links.{table, named, Sought};
 ghost use Rattle.calendar_queue.specs.Heads.{entry_after, head_of, Steps};
 
 use crate::bucket::Bucket;
@@ -16,13 +16,22 @@ impl Lists {
         self.moments[slot.place()]
     }
 
+    /// The slot that a place names, or none.
+    #[tactic(auto, using(crate::specs::Numbers::slot_made))]
+    fn named(&self, place: usize) -> Option<Slot>
+        requires { place < 12480 }
+        ensures { result ≡ named self.now.next place }
+    {
+        Slot::new(self.next[place]).ok()
+    }
+
     /// The entry that a place names, or none.
     #[tactic(auto, unfolding(crate::specs::Heads::entry_at))]
     fn after(&self, place: usize) -> Option<Entry>
         requires { place < 12480 }
         ensures { result ≡ entry_after self.now.moments self.now.next place }
     {
-        let slot = self.next[place]?;
+        let slot = self.named(place)?;
         let moment = self.moment(slot)?;
         Some(Entry { moment, slot })
     }
