@@ -1,5 +1,6 @@
 //! Finding the place of an entry in its bucket.
 ghost use Rattle.std.specs.Prelude.{◌≡◌, ◌<◌};
+ghost use Rattle.queues.specs.Entries.{comes_before};
 ghost use Rattle.calendar_queue.specs.Links.{table, named, Sought};
 ghost use Rattle.calendar_queue.specs.Heads.{entry_after, head_of, Steps};
 
@@ -7,6 +8,14 @@ use crate::bucket::Bucket;
 use crate::lists::Lists;
 use queues::{Entry, Slot};
 use times::Moment;
+
+/// Whether an entry comes before another. The times are looked at first, since on a walk most differ.
+#[tactic(auto, unfolding(queues::specs::Entries::ahead))]
+fn before(entry: Entry, wanted: Entry) -> bool
+    ensures { result ≡ comes_before entry wanted }
+{
+    entry.moment.time < wanted.moment.time || entry < wanted
+}
 
 impl Lists {
     /// The moment of a slot, or none.
@@ -44,13 +53,13 @@ impl Lists {
     }
 
     /// The slot that a place names, where it comes before an entry.
-    #[tactic(auto, using(queues::specs::EntryOrder::less, crate::specs::Changes::some_leads, crate::specs::Changes::entry_held))]
+    #[tactic(auto, using(crate::specs::Changes::some_leads, crate::specs::Changes::entry_held))]
     fn step(&self, place: usize, wanted: Entry) -> Option<Slot>
         requires { place < 12480 }
         ensures { Steps self.now.moments self.now.next place wanted result }
     {
         let entry = self.after(place)?;
-        if entry < wanted {
+        if before(entry, wanted) {
             Some(entry.slot)
         } else {
             None
