@@ -1,39 +1,41 @@
 -- Opening a gap: a place for a slot, or the place that a slot leaves.
-use Rattle.std.proofs.Common.{◌≡◌, ℕ, zero, suc, ◌+◌, ◌-◌, ◌<◌, ◌≤◌, false, Some, None, Option, List, ◌∷◌, map, length, eqb, get_or, replicate, set, sym, refl, ap, ◌∙◌, subst, arith, get_or-set_other, get_or-set_same}
+use Rattle.std.proofs.Common.{◌≡◌, ℕ, zero, suc, ◌+◌, ◌-◌, ◌<◌, ◌≤◌, false, Some, None, Option, List, ◌∷◌, map, length, eqb, get_or, replicate, set, sym, refl, ap, ◌∙◌, subst, ⊎_elim, arith, get_or-set_other, get_or-set_same}
 use Rattle.std.proofs.Math.Path.{fun_ext}
-use Rattle.std.proofs.lemmas.Bool.{eqb-true, ne_eqb}
+use Rattle.std.proofs.lemmas.Bool.{eqb-true, eq-eqb, ne_eqb, cases_eq, cond-true, cond-false}
 use Rattle.std.specs.List.{All, range_with_len}
 use Rattle.std.proofs.lemmas.List.Elements.{All-contains}
 use Rattle.std.proofs.lemmas.List.FromFn.{get_or-map-range_with_len, length-map-range_with_len}
 use Rattle.std.proofs.lemmas.Map.Keys.{IsDistinct-from_apart}
 use Rattle.std.proofs.lemmas.Map.Steps.{length-le_from_distinct_below}
 use Rattle.std.proofs.lemmas.Map.Views.{Contains-from_any}
+use Rattle.rules.specs.Basics.{put}
+use Rattle.rules.specs.Stamps.{Stamp}
 use Rattle.queues.proofs.Firsts.{some_none, some_some}
 use Rattle.queues.specs.declared.entry.Entry.{Entry}
 use Rattle.heap_queue.specs.declared.tree.Tree.{Tree}
 use Rattle.queues.specs.Entries.{comes_before}
 use Rattle.queues.specs.EntryOrder.{keys}
-use Rattle.heap_queue.specs.Heaps.{nothing, up, entry_of, slot_of, place_of, told, Empty, Whole, OrderedBut, Seated, Vacant}
+use Rattle.heap_queue.specs.Heaps.{nothing, up, place_in, entry_of, slot_of, place_of, told, held, Empty, Whole, OrderedBut, Seated, Vacant}
 use Rattle.heap_queue.specs.Gaps.{carry, told_as}
 
 -- a heap without entries
-none_at : (n k : ℕ) → get_or (replicate {A = Option ℕ} n None) k None ≡ None
-none_at zero k = refl
-none_at (suc n) zero = refl
-none_at (suc n) (suc k) = none_at n k
+none_at : (n k m : ℕ) → get_or (replicate n m) k m ≡ m
+none_at zero k m = refl
+none_at (suc n) zero m = refl
+none_at (suc n) (suc k) m = none_at n k m
 
-pub empty : (t : Tree) → t.len ≡ 0 → t.place ≡ replicate 12352 None → Empty t
-empty t none place = record {
+pub empty : (t : Tree) → t.len ≡ 0 → t.place ≡ replicate 12352 65535 → Empty t
+empty t size place = record {
   whole = record {
     places = λ i l. absurd (omega arith);
-    found = λ k p h. some_none _ p (nowhere k) h;
+    found = λ k p h. some_none _ p (none k) h;
     order = λ k p l. absurd (omega arith);
   };
-  nothing = λ k. ap (told t) (nowhere k);
+  nothing = λ k. ap (told t) (none k);
 }
   where
-    nowhere : (k : ℕ) → place_of t k ≡ None
-    nowhere k = ap (λ (l : List (Option ℕ)). get_or l k None) place ∙ none_at 12352 k
+    none : (k : ℕ) → place_of t k ≡ None
+    none k = ap (λ (l : List ℕ). place_in (get_or l k 65535)) place ∙ ap place_in (none_at 12352 k 65535)
 
 -- the slots in the heap
 abbrev stood : Tree → List ℕ
@@ -94,7 +96,7 @@ module _ (t : Tree) (whole : Whole t) where
 
     module _ (slot : ℕ) (place : u.place ≡ t.place) (none : place_of t slot ≡ None) (size : u.len ≡ t.len + 1) where
       kept : (k : ℕ) → place_of u k ≡ place_of t k
-      kept k = ap (λ (l : List (Option ℕ)). get_or l k None) place
+      kept k = ap (λ (l : List ℕ). place_in (get_or l k 65535)) place
 
       -- behind the last place
       pub seat_new : Seated t u slot t.len
@@ -139,13 +141,25 @@ module _ (t : Tree) (whole : Whole t) where
       held = refl;
     }
 
+    -- what is held once the slot is taken out
+    pub vacate_held : (h : ℕ → Option Stamp) (x : ℕ) → slot < 12352 → x ≡ slot → ((k : ℕ) → h k ≡ told t (place_in (get_or (set t.place x 65535) k 65535))) → h ≡ put (held t) slot None
+    vacate_held h x small same is = fun_ext λ k. is k ∙ ap (λ (j : ℕ). told t (place_in (get_or (set t.place j 65535) k 65535))) same ∙ ⊎_elim
+        (λ (e : k ≡ slot).
+        ap (λ (j : ℕ). told t (place_in (get_or (set t.place slot 65535) j 65535))) e
+        ∙ ap (λ (p : ℕ). told t (place_in p)) (get_or-set_same t.place slot 65535 65535 (omega (arith, t.size)))
+        ∙ sym (cond-true _ None (held t k) (eq-eqb k slot e)))
+        (λ (n : k ≡ slot → ⊥).
+        ap (λ (p : ℕ). told t (place_in p)) (get_or-set_other t.place slot k 65535 65535 n)
+        ∙ sym (cond-false _ None (held t k) (ne_eqb k slot n)))
+        (cases_eq k slot)
+
     -- u: the tables once the slot is taken out
-    module _ (u : Tree) (heap : u.heap ≡ t.heap) (place : u.place ≡ set t.place slot None) (small : slot < 12352) (size : u.len ≡ t.len - 1) where
+    module _ (u : Tree) (heap : u.heap ≡ t.heap) (place : u.place ≡ set t.place slot 65535) (small : slot < 12352) (size : u.len ≡ t.len - 1) where
       gone : place_of u slot ≡ None
-      gone = ap (λ (l : List (Option ℕ)). get_or l slot None) place ∙ get_or-set_same t.place slot None None (omega (arith, t.size))
+      gone = ap (λ (l : List ℕ). place_in (get_or l slot 65535)) place ∙ ap place_in (get_or-set_same t.place slot 65535 65535 (omega (arith, t.size)))
 
       others : (k : ℕ) → (k ≡ slot → ⊥) → place_of u k ≡ place_of t k
-      others k n = ap (λ (l : List (Option ℕ)). get_or l k None) place ∙ get_or-set_other t.place slot k None None n
+      others k n = ap (λ (l : List ℕ). place_in (get_or l k 65535)) place ∙ ap place_in (get_or-set_other t.place slot k 65535 65535 n)
 
       not_slot : (k p : ℕ) → place_of u k ≡ Some p → k ≡ slot → ⊥
       not_slot k p h e = some_none (place_of u k) p (ap (place_of u) e ∙ gone) h

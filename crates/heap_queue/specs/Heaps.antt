@@ -1,5 +1,5 @@
--- A heap of entries with an index: heap lists the entries by place, place tells each slot's place, or none.
-use Rattle.std.specs.Prelude.{◌≡◌, ℕ, ◌-◌, ◌/◌, ◌<◌, true, false, Some, None, Option, ◌≢◌, slice_index_or}
+-- A heap of entries with an index: heap lists the entries by place, place tells each slot's place, or 65,535 for none.
+use Rattle.std.specs.Prelude.{◌≡◌, ℕ, ◌-◌, ◌/◌, ◌<◌, true, false, cond, Some, None, Option, ◌==◌, ◌≢◌, slice_index_or}
 use Rattle.std.proofs.Common.{arith}
 use Rattle.rules.specs.Basics.{put}
 use Rattle.rules.specs.Stamps.{Stamp}
@@ -24,6 +24,10 @@ nothing = record {
   slot = record { number = 0; inside = omega arith };
 }
 
+-- a place as the index tells it
+abbrev pub place_in : ℕ → Option ℕ
+place_in p = cond (p == 65535) None (Some p)
+
 -- the entry at place i, its slot, and the place of slot k
 abbrev pub entry_of : Tree → ℕ → Entry
 entry_of t i = slice_index_or t.heap i nothing
@@ -32,7 +36,7 @@ abbrev pub slot_of : Tree → ℕ → ℕ
 slot_of t i = let e = entry_of t i in e.slot.number
 
 abbrev pub place_of : Tree → ℕ → Option ℕ
-place_of t k = slice_index_or t.place k None
+place_of t k = place_in (slice_index_or t.place k 65535)
 
 -- the moment at a place, where there is one; and what is held: for each slot its moment, or nothing
 abbrev pub told : Tree → Option ℕ → Option Stamp

@@ -14,7 +14,7 @@ use Rattle.queues.proofs.Firsts.{some_none, some_some, first_only}
 use Rattle.heap_queue.specs.declared.tree.Tree.{Tree}
 use Rattle.queues.specs.Entries.{comes_before, key}
 use Rattle.queues.specs.EntryOrder.{keys, ahead_never, ahead_parts}
-use Rattle.heap_queue.specs.Heaps.{up, entry_of, place_of, told, held, Whole}
+use Rattle.heap_queue.specs.Heaps.{up, place_in, entry_of, place_of, told, held, Whole}
 
 -- what is held stands at a place
 record Stands (t : Tree) (o : Option ℕ) (m : Stamp) : Type 0 where
@@ -27,7 +27,7 @@ stands t None m h = some_none None m refl h
 stands t (Some p) m h = record { at = p; is = refl; moment = some_some _ _ _ refl h }
 
 pub past_none : (t : Tree) (k : ℕ) → 12352 ≤ k → held t k ≡ None
-past_none t k h = ap (told t) (get_or_past t.place k None (omega (arith, t.size)))
+past_none t k h = ap (λ (p : ℕ). told t (place_in p)) (get_or_past t.place k 65535 (omega (arith, t.size)))
 
 pub held_usual : (t : Tree) (k : ℕ) (m : Stamp) → held t k ≡ Some m → Usual m.time
 held_usual t k m h =

@@ -6,11 +6,14 @@ use queues::{Entry, SLOTS};
 mod gaps;
 mod places;
 
-/// The entries in the heap by place, the least first and each parent before its children; and each slot's place, where it has one.
+/// No place: the slot does not stand in the heap.
+const NOWHERE: u16 = 65535;
+
+/// The entries in the heap by place, the least first and each parent before its children; and each slot's place.
 #[derive(Drop)]
 pub(crate) struct Tree {
     heap: [Entry; SLOTS],
-    place: [Option<u16>; SLOTS],
+    place: [u16; SLOTS],
     pub(crate) len: u16,
     ghost long: { length heap ≡ 12352 },
     ghost size: { length place ≡ 12352 },

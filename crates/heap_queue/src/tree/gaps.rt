@@ -2,7 +2,7 @@
 ghost use Rattle.std.specs.Prelude.{◌≡◌, ◌+◌, ◌*◌, ◌<◌, MatchOption};
 ghost use Rattle.heap_queue.specs.Heaps.{entry_of, place_of, Gapped, Below, Above, ParentAfter, LeastChild, ChildBefore, Filled, Went, Settled};
 
-use crate::tree::{Gap, Tree};
+use crate::tree::{Gap, NOWHERE, Tree};
 use queues::{Entry, Slot};
 
 impl Tree {
@@ -18,7 +18,10 @@ impl Tree {
     pub(crate) fn place_of(&self, slot: Slot) -> Option<u16>
         ensures { result ≡ place_of self.now slot.number }
     {
-        self.place[slot.place()]
+        match self.place[slot.place()] {
+            NOWHERE => None,
+            at => Some(at),
+        }
     }
 
     /// Puts an entry at a place, in the heap and in the index.
@@ -27,7 +30,7 @@ impl Tree {
         ensures { Filled self.old self.new at entry }
     {
         self.heap[usize::from(at)] = entry;
-        self.place[entry.slot.place()] = Some(at);
+        self.place[entry.slot.place()] = at;
     }
 
     /// The place above the gap, where the entry there comes after the one in hand.

@@ -3,7 +3,7 @@ ghost use Rattle.std.specs.Prelude.{◌≡◌, None, MatchOption};
 ghost use Rattle.rules.specs.Basics.{put};
 ghost use Rattle.heap_queue.specs.Heaps.{held, Empty, Whole, Seated, Vacant};
 
-use crate::tree::{Gap, Tree};
+use crate::tree::{Gap, NOWHERE, Tree};
 use queues::{Entry, SLOTS, Slot};
 use times::{Moment, Time};
 
@@ -18,7 +18,7 @@ impl Tree {
         };
         Tree {
             heap: [entry; SLOTS],
-            place: [None; SLOTS],
+            place: [NOWHERE; SLOTS],
             len: 0,
         }
     }
@@ -45,7 +45,7 @@ impl Tree {
         ensures left { MatchOption result (Whole self.new) (Vacant self.new) }
     {
         let at = self.place_of(slot)?;
-        self.place[slot.place()] = None;
+        self.place[slot.place()] = NOWHERE;
         self.len -= 1;
         let end = self.len;
         if at == end {
