@@ -10,7 +10,6 @@ use Rattle.rules.specs.Slots.{First}
 use Rattle.times.specs.declared.moment.Moment.{Moment}
 use Rattle.times.specs.Of.{moment_of}
 use Rattle.times.proofs.Times.{times_usual}
-use Rattle.queues.specs.declared.slot.Slot.{Slot}
 use Rattle.queues.specs.Meanings.{stored, soonest}
 use Rattle.queues.specs.Laws.{Held}
 use Rattle.queues.specs.Entries.{ahead, key}

@@ -5,7 +5,6 @@ use Rattle.rules.specs.Slots.{Queue}
 use Rattle.times.specs.declared.moment.Moment.{Moment}
 use Rattle.times.specs.Of.{moment_of}
 use Rattle.queues.specs.Meanings.{stored}
-use Rattle.queues.specs.declared.slot.Slot.{Slot}
 use Rattle.queues.specs.declared.entry.Entry.{Entry}
 use Rattle.calendar_queue.specs.Links.{table}
 use Rattle.calendar_queue.specs.Heads.{head_of}

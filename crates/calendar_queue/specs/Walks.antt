@@ -7,7 +7,6 @@ use Rattle.std.proofs.Math.Bridge.{le_prop}
 use Rattle.std.proofs.lemmas.List.{get_or_past}
 use Rattle.std.proofs.lemmas.Bool.{both_ways, cases_Bool, cases_lt, cases_eq, and_parts, and_from, and_right}
 use Rattle.times.specs.declared.moment.Moment.{Moment}
-use Rattle.queues.specs.declared.slot.Slot.{Slot}
 use Rattle.calendar_queue.specs.Entries.{bucket, leads, lies}
 use Rattle.calendar_queue.specs.Links.{Table, table, links, stands, opens, Follows, Linked}
 use Rattle.calendar_queue.specs.Order.{leads_never, leads_empty, bucket_below}
