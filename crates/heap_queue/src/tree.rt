@@ -13,8 +13,8 @@ const NOWHERE: u16 = 65535;
 #[derive(Drop)]
 pub(crate) struct Tree {
     heap: [Entry; SLOTS],
-    place: [u16; SLOTS],
     pub(crate) len: u16,
+    place: [u16; SLOTS],
     ghost long: { length heap ≡ 12352 },
     ghost size: { length place ≡ 12352 },
     ghost room: { len ≤ 12352 },

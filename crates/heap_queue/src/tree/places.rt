@@ -18,8 +18,8 @@ impl Tree {
         };
         Tree {
             heap: [entry; SLOTS],
-            place: [NOWHERE; SLOTS],
             len: 0,
+            place: [NOWHERE; SLOTS],
         }
     }
 
