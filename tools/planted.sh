@@ -24,7 +24,7 @@ text, old = open(path).read(), None
 for line in open(edit).read().split('\n'):
     if line.startswith('old: '):
         old = line[5:]
-    elif line.startswith('new: '):
+    elif line.startswith('new:'):
         if text.count(old) != 1:
             sys.exit('the old text stands there %d times' % text.count(old))
         text = text.replace(old, line[5:])
